@@ -1,0 +1,12 @@
+pub mod Answering
+pub mod Cutting
+pub mod Digits
+pub mod FaceLines
+pub mod Filling
+pub mod Fronts
+pub mod LineAnswers
+pub mod LineContents
+pub mod PointLines
+pub mod Reading
+pub mod Surveying
+pub mod TextLines
