@@ -36,3 +36,4 @@ pub use rows::Point;
 pub use rows::PointDebug;
 pub use rows::PointDefault;
 pub use rows::PointPartialEq;
+pub use rows::held;

@@ -3,12 +3,14 @@ ghost use Rattle.std.specs.declared.option.Option.the-variants.{Some};
 ghost use Rattle.sheet.specs.Notices.{nameOf, faultLine};
 use std::fmt;
 
-/// What refused: the reader of a field, of a line or of a sheet.
+/// What refused: the reader of a field, of a line, of a sheet or of a step, or the writer of a step.
 #[derive(Clone, Copy, Debug, PartialEq, Eq)]
 pub enum Layer {
     Field,
     Line,
     Sheet,
+    Step,
+    Writer,
 }
 
 /// A fault in numbers: which it is, who refused, and its two places.
@@ -28,6 +30,8 @@ pub impl fmt::Display for Layer as LayerDisplay {
             Layer::Field => write!(f, "field"),
             Layer::Line => write!(f, "line"),
             Layer::Sheet => write!(f, "sheet"),
+            Layer::Step => write!(f, "step"),
+            Layer::Writer => write!(f, "writer"),
         }
     }
 }

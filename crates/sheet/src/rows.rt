@@ -1,6 +1,7 @@
 // Rows of the caller's tables.
 ghost use mathlib.Core.Path.{_≡_};
-ghost use Rattle.sheet.specs.Counted.{held, counted};
+ghost use mathlib.Core.Bool.{true};
+ghost use Rattle.sheet.specs.Counted.{held, counted, inRange};
 
 /// A coordinate lies from −4,096 to 4,096.
 pub const COORDINATE_BOUND: i16 = 4096;
@@ -38,15 +39,17 @@ impl Coords {
     pub fn counted(self) -> Coords
         ensures { λ r. ⌜ r ≡ counted self ⌝ }
     {
-        let x = hold(self.x);
-        let y = hold(self.y);
-        let z = hold(self.z);
+        let x = held(self.x);
+        let y = held(self.y);
+        let z = held(self.z);
         Coords { x, y, z }
     }
 }
 
-fn hold(value: i16) -> i16
-    ensures { λ r. ⌜ r ≡ held value ⌝ }
+/// A coordinate as it counts.
+pub fn held(value: i16) -> i16
+    ensures value { λ r. ⌜ r ≡ held value ⌝ }
+    ensures within { λ r. ⌜ inRange r ≡ true ⌝ }
 {
     if value < -COORDINATE_BOUND {
         return -COORDINATE_BOUND;

@@ -1,0 +1,11 @@
+pub mod FieldAnswers
+pub mod FieldLaws
+pub mod FrameLaws
+pub mod LayAnswers
+pub mod Pasting
+pub mod PointAnswers
+pub mod PointLaws
+pub mod Ranges
+pub mod RowAnswers
+pub mod StepLaws
+pub mod WriteAnswers
