@@ -7,7 +7,7 @@ use mathlib.Core.List.{List, [], _∷_, _++_}
 use lib.Dec.{eqb}
 use lib.ListN.{length, getD, take, drop, set}
 use native.Mathlib.Omega.{arith}
-use Rattle.std.proofs.shelf.Lists.{at-drop-more, at-drop-all, drop-drop, take-all, length-take, take-more-set, drop-set-lt, append-assoc, append-nil, take-append-drop}
+use Rattle.std.proofs.shelf.Lists.{at-drop-more, at-drop-all, take-all, length-take, take-more-set, append-assoc, append-nil, take-append-drop}
 use Rattle.std.proofs.shelf.Tests.{cases-lt, cond-true, cond-false, eq-eqb, ne-eqb}
 use Rattle.std.specs.declared.option.Option.the-variants.{Some, None}
 use Rattle.sheet.specs.declared.rows.Coords.{Coords}
@@ -16,6 +16,7 @@ use Rattle.sheet.specs.declared.rows.Point.{Point}
 use Rattle.step.specs.Frames.{sameFace, firstOther, endingAt, movingIn}
 use Rattle.step.specs.Record.{movesOf, mapOf}
 use Rattle.step.specs.declared.frames.Difference.the-variants as difference
+use Rattle.step.proofs.Tables.{rest-same}
 
 -- THE FRONT OF A TABLE
 
@@ -55,12 +56,6 @@ other-all fs gs i h =
     ]
 
 -- ENDS
-
-rest-same : (ps qs : List Point) (i : ℕ) → drop i qs ≡ drop i ps → drop (i + 1) qs ≡ drop (i + 1) ps
-rest-same ps qs i e = sym (drop-drop 1 i qs) ∙ ap (drop 1) e ∙ drop-drop 1 i ps
-
-pub kept-more : (ps qs : List Point) (i : ℕ) (q : Point) → drop i qs ≡ drop i ps → drop (i + 1) (set qs i q) ≡ drop (i + 1) ps
-kept-more ps qs i q e = drop-set-lt (i + 1) qs i q (omega arith) ∙ rest-same ps qs i e
 
 abbrev joined : Point → Point → Point
 joined p f = record { start = p .start; end = f .start }

@@ -8,4 +8,5 @@ pub mod PointLaws
 pub mod Ranges
 pub mod RowAnswers
 pub mod StepLaws
+pub mod Tables
 pub mod WriteAnswers

@@ -32,45 +32,16 @@ apart s e = record { x = e .x -ℤ s .x; y = e .y -ℤ s .y; z = e .z -ℤ s .z 
 abbrev bits : Bool → Bool → Bool → ℕ
 bits a b c = cond a 0 1 + cond b 0 2 + cond c 0 4
 
-bit-x : (a b c : Bool) → bitStands (bits a b c) 1 ≡ not a
-bit-x true true true = refl
-bit-x true true false = refl
-bit-x true false true = refl
-bit-x true false false = refl
-bit-x false true true = refl
-bit-x false true false = refl
-bit-x false false true = refl
-bit-x false false false = refl
-
-bit-y : (a b c : Bool) → bitStands (bits a b c) 2 ≡ not b
-bit-y true true true = refl
-bit-y true true false = refl
-bit-y true false true = refl
-bit-y true false false = refl
-bit-y false true true = refl
-bit-y false true false = refl
-bit-y false false true = refl
-bit-y false false false = refl
-
-bit-z : (a b c : Bool) → bitStands (bits a b c) 4 ≡ not c
-bit-z true true true = refl
-bit-z true true false = refl
-bit-z true false true = refl
-bit-z true false false = refl
-bit-z false true true = refl
-bit-z false true false = refl
-bit-z false false true = refl
-bit-z false false false = refl
-
-small : (a b c : Bool) → ltb 7 (bits a b c) ≡ false
-small true true true = refl
-small true true false = refl
-small true false true = refl
-small true false false = refl
-small false true true = refl
-small false true false = refl
-small false false true = refl
-small false false false = refl
+-- each bit stands where its axis moves, and there is no other
+map-of : (a b c : Bool) → (bitStands (bits a b c) 1 ≡ not a) × (bitStands (bits a b c) 2 ≡ not b) × (bitStands (bits a b c) 4 ≡ not c) × (ltb 7 (bits a b c) ≡ false)
+map-of true true true = (refl, refl, refl, refl)
+map-of true true false = (refl, refl, refl, refl)
+map-of true false true = (refl, refl, refl, refl)
+map-of true false false = (refl, refl, refl, refl)
+map-of false true true = (refl, refl, refl, refl)
+map-of false true false = (refl, refl, refl, refl)
+map-of false false true = (refl, refl, refl, refl)
+map-of false false false = (refl, refl, refl, refl)
 
 bit-value : (b k : ℕ) → b < 2 → cond (eqb b 0) 0 k ≡ b * k
 bit-value b k h =
@@ -154,13 +125,13 @@ point-back i s e r p q =
     let b = isZero (m .y) in
     let c = isZero (m .z) in
     let hx : ReadBack (place i 1) (bitStands (mapIn bs) 1) (s .x) (e .x) (xField bs) (fy ++ (fz ++ r))
-    = read-at (place i 1) (bitStands (mapIn bs) 1) (not a) (s .x) (e .x) (xField bs) (fx ++ (fy ++ (fz ++ r))) (fy ++ (fz ++ r)) (bit-x a b c) (append-assoc fx (fy ++ fz) r ∙ ap (λ l. fx ++ l) (append-assoc fy fz r)) (field-back (place i 1) (s .x) (e .x) (fy ++ (fz ++ r)) (sx .0) (ex .0)) in
+    = read-at (place i 1) (bitStands (mapIn bs) 1) (not a) (s .x) (e .x) (xField bs) (fx ++ (fy ++ (fz ++ r))) (fy ++ (fz ++ r)) (map-of a b c .0) (append-assoc fx (fy ++ fz) r ∙ ap (λ l. fx ++ l) (append-assoc fy fz r)) (field-back (place i 1) (s .x) (e .x) (fy ++ (fz ++ r)) (sx .0) (ex .0)) in
     let hy : ReadBack (place i 2) (bitStands (mapIn bs) 2) (s .y) (e .y) (yField bs) (fz ++ r)
-    = read-at (place i 2) (bitStands (mapIn bs) 2) (not b) (s .y) (e .y) (yField bs) (fy ++ (fz ++ r)) (fz ++ r) (bit-y a b c) (hx .rest) (field-back (place i 2) (s .y) (e .y) (fz ++ r) (sy .0) (ey .0)) in
+    = read-at (place i 2) (bitStands (mapIn bs) 2) (not b) (s .y) (e .y) (yField bs) (fy ++ (fz ++ r)) (fz ++ r) (map-of a b c .1) (hx .rest) (field-back (place i 2) (s .y) (e .y) (fz ++ r) (sy .0) (ey .0)) in
     let hz : ReadBack (place i 3) (bitStands (mapIn bs) 4) (s .z) (e .z) (zField bs) r
-    = read-at (place i 3) (bitStands (mapIn bs) 4) (not c) (s .z) (e .z) (zField bs) (fz ++ r) r (bit-z a b c) (hy .rest) (field-back (place i 3) (s .z) (e .z) r (sy .1) (ey .1)) in
+    = read-at (place i 3) (bitStands (mapIn bs) 4) (not c) (s .z) (e .z) (zField bs) (fz ++ r) r (map-of a b c .2) (hy .rest) (field-back (place i 3) (s .z) (e .z) r (sy .1) (ey .1)) in
     record {
-      good = all-none i s bs (ne-eqb (length bs) 0 (λ h. omega arith)) (small a b c) (hx .good) (hy .good) (hz .good);
+      good = all-none i s bs (ne-eqb (length bs) 0 (λ h. omega arith)) (map-of a b c .3) (hx .good) (hy .good) (hz .good);
       end = same (endOf s bs) e (hx .end) (hy .end) (hz .end);
       rest = hz .rest;
     }

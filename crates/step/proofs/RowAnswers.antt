@@ -5,8 +5,7 @@ use mathlib.Core.Bool.{true, false, not}
 use mathlib.Core.List.{List, [], _∷_, _++_}
 use lib.Dec.{eqb}
 use lib.ListN.{length, getD, take, drop, set}
-use native.Mathlib.Omega.{arith}
-use Rattle.std.proofs.shelf.Lists.{at-drop-more, at-drop-all, drop-drop, take-more-set, drop-set-lt, append-assoc, append-nil, take-all}
+use Rattle.std.proofs.shelf.Lists.{at-drop-more, at-drop-all, take-more-set, append-assoc, append-nil, take-all}
 use Rattle.std.proofs.shelf.Tests.{not-from-true, not-from-false}
 use Rattle.std.specs.declared.option.Option.the-variants.{None}
 use Rattle.std.specs.declared.result.Result.the-variants.{Ok, Err}
@@ -20,6 +19,7 @@ use Rattle.sheet.specs.declared.notices.Layer.the-variants.{Step}
 use Rattle.step.specs.Faults.{place, noticeAt}
 use Rattle.step.specs.Laying.{pointChecks, endOf, afterPoint, rowsChecks, laid}
 use Rattle.step.proofs.PointAnswers.{whole}
+use Rattle.step.proofs.Tables.{rest-same}
 
 abbrev start : List Point → ℕ → Point → Coords
 start ps i d = counted (getD ps i d .start)
@@ -54,10 +54,6 @@ rows-done ps i bs x l e = fits-later (not (eqb (length bs) 0)) _ [] x (not-from-
 
 -- the second pass
 
--- the rows still to be written are as they were
-rest-same : (ps qs : List Point) (i : ℕ) → drop i qs ≡ drop i ps → drop (i + 1) qs ≡ drop (i + 1) ps
-rest-same ps qs i e = sym (drop-drop 1 i qs) ∙ ap (drop 1) e ∙ drop-drop 1 i ps
-
 pub still-good : (ps qs : List Point) (i : ℕ) (d : Point) (s e : Coords) (bs r : List ℕ) → i < length qs → drop i qs ≡ drop i ps → s ≡ counted (getD qs i d .start) → Ok (e, r) ≡ whole i s bs → firstFit (rowsChecks i (drop i ps) bs) ≡ None → firstFit (rowsChecks (i + 1) (drop (i + 1) ps) r) ≡ None
 still-good ps qs i d s e bs r l same p h g =
     ap (λ t. firstFit (rowsChecks (i + 1) t r)) (sym (rest-same ps qs i same))
@@ -67,9 +63,6 @@ still-good ps qs i d s e bs r l same p h g =
 pub never-fault : (ps qs : List Point) (i : ℕ) (d : Point) (s : Coords) (bs : List ℕ) (n : Notice) → i < length qs → drop i qs ≡ drop i ps → s ≡ counted (getD qs i d .start) → Err n ≡ whole i s bs → firstFit (rowsChecks i (drop i ps) bs) ≡ None → ⊥
 never-fault ps qs i d s bs n l same p h g =
     no-fault {X = ℕ} (rowsChecks i (drop i qs) bs) 0 n (ap (λ t. firstFit (rowsChecks i t bs)) same ∙ g) (rows-fault qs i d s bs n 0 l p h)
-
-pub kept-more : (ps qs : List Point) (i : ℕ) (q : Point) → drop i qs ≡ drop i ps → drop (i + 1) (set qs i q) ≡ drop (i + 1) ps
-kept-more ps qs i q e = drop-set-lt (i + 1) qs i q (omega arith) ∙ rest-same ps qs i e
 
 -- what is written, and what the rest of the record gives
 pub laid-more : (ps qs : List Point) (i : ℕ) (d : Point) (s e : Coords) (bs r : List ℕ) (all : List Point) → i < length qs → drop i qs ≡ drop i ps → s ≡ counted (getD qs i d .start) → Ok (e, r) ≡ whole i s bs → take i qs ++ laid (drop i ps) bs ≡ all → take (i + 1) (set qs i (record { start = getD qs i d .start; end = e })) ++ laid (drop (i + 1) ps) r ≡ all

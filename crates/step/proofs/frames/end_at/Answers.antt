@@ -1,5 +1,6 @@
 use native.Mathlib.Omega.{arith}
-use Rattle.step.proofs.FrameLaws.{kept-more, ending-more, ending-all}
+use Rattle.step.proofs.FrameLaws.{ending-more, ending-all}
+use Rattle.step.proofs.Tables.{kept-more}
 use Rattle.step.proofs.frames.end_at.Needs as need
 
 pub loop-i-again : need.loop-i-again

@@ -1,5 +1,6 @@
 use native.Mathlib.Omega.{arith}
-use Rattle.step.proofs.RowAnswers.{never-fault, still-good, kept-more, laid-more, laid-all}
+use Rattle.step.proofs.RowAnswers.{never-fault, still-good, laid-more, laid-all}
+use Rattle.step.proofs.Tables.{kept-more}
 use Rattle.step.proofs.laying.write_rows.Needs as need
 
 pub unreachable-requires : need.unreachable-requires
