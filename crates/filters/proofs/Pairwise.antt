@@ -11,10 +11,10 @@ use Rattle.motion.specs.declared.shapes.Shape.{Shape}
 use Rattle.motion.specs.Vectors.{◌-ᵛ◌, dot}
 use Rattle.motion.specs.Features.{firsts, seconds, first, second}
 use Rattle.motion.specs.Lists.{each}
-use Rattle.motion.specs.Slab.{pairs, above, below, partedAlong}
+use Rattle.motion.specs.Slab.{pairs, above, below, parted_along}
 use Rattle.motion.proofs.BoxLaws.{dot-minus}
-use Rattle.filters.specs.Spans.{under, stayParted}
-use Rattle.filters.specs.Slabs.{sidesAlong, startSides, endSides}
+use Rattle.filters.specs.Spans.{under, stay_parted}
+use Rattle.filters.specs.Slabs.{sides_along, start_sides, end_sides}
 
 -- ---- one pair
 max-under : (x y z : ℤ) → lt_z (int_max x y) z ≡ (lt_z x z && lt_z y z)
@@ -54,7 +54,7 @@ abbrev pub all : (V3 → Bool) → Kind → V3 → V3 → V3 → V3 → Bool
 all f k p a b c = each (λ m. each (λ n. f (m -ᵛ n)) (seconds k p a b c)) (firsts k p a b c)
 
 module _ (d : V3) where
-  pub over-is : (k : Kind) (p a b c : V3) → under (sidesAlong d k p a b c).second (sidesAlong d k p a b c).first ≡ all (above d) k p a b c
+  pub over-is : (k : Kind) (p a b c : V3) → under (sides_along d k p a b c).second (sides_along d k p a b c).first ≡ all (above d) k p a b c
   over-is Vf p a b c =
       max-under (int_max (dot d a) (dot d b)) (dot d c) (dot d p) ∙ (λ i. max-under (dot d a) (dot d b) (dot d p) i && over d p c i)
       ∙ (λ i. (over d p a i && over d p b i) && above d (p -ᵛ c)) ∙ three (above d (p -ᵛ a)) (above d (p -ᵛ b)) (above d (p -ᵛ c))
@@ -62,7 +62,7 @@ module _ (d : V3) where
       max-under (dot d a) (dot d p) (int_min (dot d b) (dot d c)) ∙ (λ i. min-over (dot d b) (dot d c) (dot d a) i && min-over (dot d b) (dot d c) (dot d p) i)
       ∙ (λ i. (over d b a i && over d c a i) && (over d b p i && over d c p i)) ∙ square (above d (b -ᵛ a)) (above d (c -ᵛ a)) (above d (b -ᵛ p)) (above d (c -ᵛ p))
 
-  pub beneath-is : (k : Kind) (p a b c : V3) → under (sidesAlong d k p a b c).first (sidesAlong d k p a b c).second ≡ all (below d) k p a b c
+  pub beneath-is : (k : Kind) (p a b c : V3) → under (sides_along d k p a b c).first (sides_along d k p a b c).second ≡ all (below d) k p a b c
   beneath-is Vf p a b c =
       min-over (int_min (dot d a) (dot d b)) (dot d c) (dot d p) ∙ (λ i. min-over (dot d a) (dot d b) (dot d p) i && beneath d p c i)
       ∙ (λ i. (beneath d p a i && beneath d p b i) && below d (p -ᵛ c)) ∙ three (below d (p -ᵛ a)) (below d (p -ᵛ b)) (below d (p -ᵛ c))
@@ -106,15 +106,15 @@ module _ (f : V3 → Bool) where
       (λ i. on-places (λ m. m.start) t.kind t.p t.a t.b t.c i && on-places (λ m. m.end) t.kind t.p t.a t.b t.c i) ∙ both (first t) (second t)
 
 module _ (d : V3) (t : Shape) where
-  all-over : (under (startSides d t).second (startSides d t).first && under (endSides d t).second (endSides d t).first) ≡ pairs (above d) t
+  all-over : (under (start_sides d t).second (start_sides d t).first && under (end_sides d t).second (end_sides d t).first) ≡ pairs (above d) t
   all-over =
       (λ i. over-is d t.kind t.p.start t.a.start t.b.start t.c.start i && over-is d t.kind t.p.end t.a.end t.b.end t.c.end i)
       ∙ pairs-are (above d) t
 
-  all-beneath : (under (startSides d t).first (startSides d t).second && under (endSides d t).first (endSides d t).second) ≡ pairs (below d) t
+  all-beneath : (under (start_sides d t).first (start_sides d t).second && under (end_sides d t).first (end_sides d t).second) ≡ pairs (below d) t
   all-beneath =
       (λ i. beneath-is d t.kind t.p.start t.a.start t.b.start t.c.start i && beneath-is d t.kind t.p.end t.a.end t.b.end t.c.end i)
       ∙ pairs-are (below d) t
 
-  pub stay-is : stayParted (startSides d t) (endSides d t) ≡ partedAlong t d
+  pub stay-is : stay_parted (start_sides d t) (end_sides d t) ≡ parted_along t d
   stay-is = λ i. all-over i || all-beneath i

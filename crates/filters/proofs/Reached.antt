@@ -5,7 +5,7 @@ use Rattle.motion.specs.declared.shapes.V3.{V3}
 use Rattle.motion.specs.declared.shapes.Moving.{Moving}
 use Rattle.motion.specs.declared.shapes.Shape.{Shape}
 use Rattle.motion.specs.Laws.{Valid, Within, InReach}
-use Rattle.filters.specs.Bounds.{within, inReach, allInReach}
+use Rattle.filters.specs.Bounds.{within, in_reach, all_in_reach}
 
 is_within : (B : ℕ) (v : V3) → within B v ≡ true → Within B v
 is_within B v h =
@@ -17,13 +17,13 @@ module _ (k : ℕ) where
   abbrev B : ℕ
   B = 4096 * 2 ^ k
 
-  in_reach : (m : Moving) → inReach B m ≡ true → InReach k m
-  in_reach m h = let p = and_parts (within B m.start) (within B m.end) h in (is_within B m.start p.0, is_within B m.end p.1)
+  reached_lem : (m : Moving) → in_reach B m ≡ true → InReach k m
+  reached_lem m h = let p = and_parts (within B m.start) (within B m.end) h in (is_within B m.start p.0, is_within B m.end p.1)
 
-pub valid : (t : Shape) → t.scale ≤ 6 → allInReach (4096 * 2 ^ t.scale) t ≡ true → Valid t
+pub valid : (t : Shape) → t.scale ≤ 6 → all_in_reach (4096 * 2 ^ t.scale) t ≡ true → Valid t
 valid t k h =
     let B : ℕ = 4096 * 2 ^ t.scale in
-    let p = and_parts (inReach B t.p && inReach B t.a && inReach B t.b) (inReach B t.c) h in
-    let q = and_parts (inReach B t.p && inReach B t.a) (inReach B t.b) p.0 in
-    let r = and_parts (inReach B t.p) (inReach B t.a) q.0 in
-    (k, in_reach t.scale t.p r.0, in_reach t.scale t.a r.1, in_reach t.scale t.b q.1, in_reach t.scale t.c p.1)
+    let p = and_parts (in_reach B t.p && in_reach B t.a && in_reach B t.b) (in_reach B t.c) h in
+    let q = and_parts (in_reach B t.p && in_reach B t.a) (in_reach B t.b) p.0 in
+    let r = and_parts (in_reach B t.p) (in_reach B t.a) q.0 in
+    (k, reached_lem t.scale t.p r.0, reached_lem t.scale t.a r.1, reached_lem t.scale t.b q.1, reached_lem t.scale t.c p.1)

@@ -5,7 +5,7 @@ use Rattle.motion.specs.declared.shapes.Shape.{Shape}
 use Rattle.motion.specs.declared.shapes.Controls.{Controls}
 use Rattle.motion.specs.Laws.{Valid}
 use Rattle.motion.specs.Plane.{d0, d1, n0, n1, turned, controls}
-use Rattle.motion.proofs.Determinants.{Triple, det, G0, G1, G2, G3, seen, at_start, atEnd}
+use Rattle.motion.proofs.Determinants.{Triple, det, G0, G1, G2, G3, seen, at_start, at_end}
 use Rattle.motion.proofs.Letters.{g0-is, g1-is, g2-is, g3-is}
 use Rattle.filters.specs.Sizes.{Near, Reach, Small}
 use Rattle.filters.proofs.Exact.{near_add, near_mul, value, called}
@@ -74,7 +74,7 @@ module _ (t : Shape) (v : Valid t) where
   unfolding seen
   start-short = record { u = minus-reach (p0 t v) (a0 t v); v = minus-reach (b0 t v) (a0 t v); w = minus-reach (c0 t v) (a0 t v) }
 
-  end_short : Short (atEnd t)
+  end_short : Short (at_end t)
   unfolding seen
   end_short = record { u = minus-reach (p1 t v) (a1 t v); v = minus-reach (b1 t v) (a1 t v); w = minus-reach (c1 t v) (a1 t v) }
 
@@ -85,8 +85,8 @@ module _ (t : Shape) (v : Valid t) where
   small g e =
       subst Small (sym e)
       record {
-        g0 = at_most _ _ (g0-is t) (near-0 (at_start t) (atEnd t) start-short end_short);
-        g1 = at_most _ _ (g1-is t) (near-1 (at_start t) (atEnd t) start-short end_short);
-        g2 = at_most _ _ (g2-is t) (near-2 (at_start t) (atEnd t) start-short end_short);
-        g3 = at_most _ _ (g3-is t) (near-3 (at_start t) (atEnd t) start-short end_short);
+        g0 = at_most _ _ (g0-is t) (near-0 (at_start t) (at_end t) start-short end_short);
+        g1 = at_most _ _ (g1-is t) (near-1 (at_start t) (at_end t) start-short end_short);
+        g2 = at_most _ _ (g2-is t) (near-2 (at_start t) (at_end t) start-short end_short);
+        g3 = at_most _ _ (g3-is t) (near-3 (at_start t) (at_end t) start-short end_short);
       }

@@ -1,6 +1,6 @@
 // The filter Box: an axis on which the two features lie one below the other over the whole step.
 ghost use Rattle.std.specs.Prelude.{◌≡◌};
-ghost use Rattle.motion.specs.Box.{partedOn, boxSet};
+ghost use Rattle.motion.specs.Box.{parted_on, box_set};
 ghost use Rattle.motion.proofs.BoxLaws.{box-lawful};
 ghost use Rattle.filters.specs.Boxes.{coordinate, swept};
 
@@ -14,7 +14,7 @@ use motion::{Moving, Shape, V3};
 pub struct BoxFilter;
 
 impl Filter for BoxFilter {
-    ghost struck = { λ f. boxSet };
+    ghost struck = { λ f. box_set };
 
     ghost lawful = { λ f. box-lawful };
 
@@ -50,7 +50,7 @@ impl Axis {
     }
 
     fn parts(self, t: Shape) -> bool
-        ensures { result ≡ partedOn (coordinate self) t }
+        ensures { result ≡ parted_on (coordinate self) t }
     {
         let p = self.sweep(t.p);
         let a = self.sweep(t.a);

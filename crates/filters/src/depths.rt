@@ -1,6 +1,6 @@
 // Striking at a depth.
 ghost use Rattle.std.specs.Prelude.{◌≡◌, ◌+◌, ◌≤◌, true, leb, if◌then◌else◌, Some, None, nat_le};
-ghost use Rattle.motion.specs.Depths.{struckAt, Struck};
+ghost use Rattle.motion.specs.Depths.{struck_at, Struck};
 
 use crate::filter::Filter;
 use crate::tests::Test;
@@ -9,7 +9,7 @@ use crate::tests::Test;
 ///
 /// A test that is struck stays apart for the whole step, and is struck at every greater depth (`laws`).
 pub fn struck_at<F: Filter>(filter: &F, test: &Test, depth: u8) -> Option<bool>
-    ensures answer { result ≡ (if leb (test.now.shape.scale + depth) 6 then Some (struckAt (F.Filter.struck filter.now) depth test.now.shape) else None) }
+    ensures answer { result ≡ (if leb (test.now.shape.scale + depth) 6 then Some (struck_at (F.Filter.struck filter.now) depth test.now.shape) else None) }
     ensures laws { result ≡ Some true → Struck (F.Filter.struck filter.now) depth test.now.shape }
 {
     if !has_room(test.shape.scale, depth) {
@@ -28,7 +28,7 @@ fn has_room(scale: u8, depth: u8) -> bool
 /// What is struck whole is struck in every part, so the whole is asked first, and its halves only where it passed.
 pub(crate) fn struck<F: Filter>(filter: &F, test: &Test, depth: u8) -> bool
     requires { test.now.shape.scale + depth ≤ 6 }
-    ensures { result ≡ struckAt (F.Filter.struck filter.now) depth test.now.shape }
+    ensures { result ≡ struck_at (F.Filter.struck filter.now) depth test.now.shape }
 {
     if filter.strikes(test) {
         return true;

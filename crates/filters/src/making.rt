@@ -1,7 +1,7 @@
 // Making a test from numbers.
 ghost use Rattle.std.specs.Prelude.{◌≡◌, ◌*◌, ◌^◌, ◌≤◌, MatchOption, nat_le, unsigned_abs};
 ghost use Rattle.motion.specs.Laws.{Valid};
-ghost use Rattle.filters.specs.Bounds.{within, inReach, allInReach};
+ghost use Rattle.filters.specs.Bounds.{within, in_reach, all_in_reach};
 
 use crate::tests::Test;
 use motion::{Moving, Shape, V3};
@@ -36,13 +36,13 @@ fn reach(scale: u8) -> u64
 }
 
 fn all_in_reach(t: Shape, bound: u64) -> bool
-    ensures { result ≡ allInReach bound t }
+    ensures { result ≡ all_in_reach bound t }
 {
     in_reach(t.p, bound) && in_reach(t.a, bound) && in_reach(t.b, bound) && in_reach(t.c, bound)
 }
 
 fn in_reach(m: Moving, bound: u64) -> bool
-    ensures { result ≡ inReach bound m }
+    ensures { result ≡ in_reach bound m }
 {
     is_within(m.start, bound) && is_within(m.end, bound)
 }

@@ -1,7 +1,7 @@
 // The filter Plane: the point never comes into the plane of the face, nor one edge into a plane with the other.
 ghost use Rattle.std.specs.Prelude.{◌≡◌, ◌*◌, ◌^◌, pos, ◌+ℤ◌, ◌*ℤ◌};
 ghost use Rattle.motion.specs.Vectors.{◌+ᵛ◌, ◌-ᵛ◌, dot};
-ghost use Rattle.motion.specs.Plane.{normal, turned, combined, controls, allAbove, all_below, oneSign, planeSet};
+ghost use Rattle.motion.specs.Plane.{normal, turned, combined, controls, all_above, all_below, one_sign, plane_set};
 ghost use Rattle.motion.proofs.PlaneLaws.{plane-lawful};
 ghost use Rattle.filters.specs.Sizes.{Near, Reach, Small};
 
@@ -15,7 +15,7 @@ use motion::{Controls, V3};
 pub struct PlaneFilter;
 
 impl Filter for PlaneFilter {
-    ghost struck = { λ f. planeSet };
+    ghost struck = { λ f. plane_set };
 
     ghost lawful = { λ f. plane-lawful };
 
@@ -89,13 +89,13 @@ fn sum(mixed: i64, volume: i64) -> i64
 
 /// All four above zero, or all below: a zero agrees with nothing.
 fn one_sign(g: Controls) -> bool
-    ensures { result ≡ oneSign g }
+    ensures { result ≡ one_sign g }
 {
     all_above(g) || all_below(g)
 }
 
 fn all_above(g: Controls) -> bool
-    ensures { result ≡ allAbove g }
+    ensures { result ≡ all_above g }
 {
     g.g0 > 0 && g.g1 > 0 && g.g2 > 0 && g.g3 > 0
 }

@@ -1,9 +1,9 @@
 // The filter Slab: a direction along which one feature stays beyond the other.
 ghost use Rattle.std.specs.Prelude.{◌≡◌};
-ghost use Rattle.motion.specs.Slab.{partedAlong, directions, slabSet};
+ghost use Rattle.motion.specs.Slab.{parted_along, directions, slab_set};
 ghost use Rattle.motion.specs.Laws.{Within};
 ghost use Rattle.motion.proofs.SlabLaws.{slab-lawful};
-ghost use Rattle.filters.specs.Slabs.{startSides, endSides};
+ghost use Rattle.filters.specs.Slabs.{start_sides, end_sides};
 
 use crate::filter::Filter;
 use crate::spans::{Sides, Span};
@@ -33,7 +33,7 @@ const DIRECTIONS: [V3; 13] = [
 pub struct SlabFilter;
 
 impl Filter for SlabFilter {
-    ghost struck = { λ f. slabSet };
+    ghost struck = { λ f. slab_set };
 
     ghost lawful = { λ f. slab-lawful };
 
@@ -43,7 +43,7 @@ impl Filter for SlabFilter {
 }
 
 fn some_parts(test: &Test) -> bool
-    ensures { result ≡ slabSet test.now.shape }
+    ensures { result ≡ slab_set test.now.shape }
 {
     for d in all_directions() {
         if parts(d, test) {
@@ -62,14 +62,14 @@ fn all_directions() -> [V3; 13]
 /// Along the direction one feature is beyond the other, at the start and at the end alike.
 fn parts(d: V3, test: &Test) -> bool
     requires { Within 1 d }
-    ensures { result ≡ partedAlong test.now.shape d }
+    ensures { result ≡ parted_along test.now.shape d }
 {
     sides_at_start(d, test).stay_parted(sides_at_end(d, test))
 }
 
 fn sides_at_start(d: V3, test: &Test) -> Sides
     requires { Within 1 d }
-    ensures { result ≡ startSides d test.now.shape }
+    ensures { result ≡ start_sides d test.now.shape }
 {
     let t = test.shape;
     let p = Span::at(dot(d, t.p.start));
@@ -81,7 +81,7 @@ fn sides_at_start(d: V3, test: &Test) -> Sides
 
 fn sides_at_end(d: V3, test: &Test) -> Sides
     requires { Within 1 d }
-    ensures { result ≡ endSides d test.now.shape }
+    ensures { result ≡ end_sides d test.now.shape }
 {
     let t = test.shape;
     let p = Span::at(dot(d, t.p.end));

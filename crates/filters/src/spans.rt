@@ -1,6 +1,6 @@
 // Stretches of a line, and the two features of a test as such.
 ghost use Rattle.std.specs.Prelude.{◌≡◌};
-ghost use Rattle.filters.specs.Spans.{spot, stretch, joined, sides, under, parted, stayParted};
+ghost use Rattle.filters.specs.Spans.{spot, stretch, joined, sides, under, parted, stay_parted};
 
 use motion::Kind;
 
@@ -76,7 +76,7 @@ impl Sides {
 
     /// At the start and at the end alike, the same one lies under the other.
     pub(crate) fn stay_parted(self, end: Sides) -> bool
-        ensures { result ≡ stayParted self end }
+        ensures { result ≡ stay_parted self end }
     {
         self.second.is_under(self.first) && end.second.is_under(end.first)
             || self.first.is_under(self.second) && end.first.is_under(end.second)

@@ -1,8 +1,8 @@
 -- What is known of a table once a file of a plan was read, whose bytes no contract can name.
 use Rattle.std.specs.Prelude.{◌≡◌, ℕ, List, length, take, None}
-use Rattle.sheet.specs.Checks.{firstFit}
+use Rattle.sheet.specs.Checks.{first_fit}
 use Rattle.sheet.specs.Lines.{lines_of}
-use Rattle.sheet.specs.Sheet.{sheetChecks, draftOf, pointsIn, faceLimit, overlaid}
+use Rattle.sheet.specs.Sheet.{sheet_checks, draft_of, points_in, face_limit, overlaid}
 use Rattle.sheet.specs.declared.drafts.Draft.{Draft}
 use Rattle.sheet.specs.declared.rows.Point.{Point}
 use Rattle.step.specs.Laying.{laid}
@@ -12,9 +12,9 @@ use Rattle.step.specs.Steps.{Step}
 abbrev pub FromText : Draft → List Point → List Point → Type 0
 FromText d before after =
     (text : List ℕ)
-    × (firstFit (sheetChecks text (length before) faceLimit) ≡ None)
-    × (d ≡ draftOf text)
-    × (after ≡ overlaid (pointsIn (lines_of text)) before)
+    × (first_fit (sheet_checks text (length before) face_limit) ≡ None)
+    × (d ≡ draft_of text)
+    × (after ≡ overlaid (points_in (lines_of text)) before)
 
 -- some bytes are a record of the first n rows, by which they have their new ends; the rest is as it was
 abbrev pub FromRecord : ℕ → List Point → List Point → Type 0

@@ -5,7 +5,7 @@ use Rattle.motion.specs.Lists.{each}
 use Rattle.inspection.specs.declared.classes.Class.{Class}
 use Rattle.inspection.specs.declared.classes.Class.TheVariants.{Kept, Struck, Shared, Repeated}
 use Rattle.inspection.specs.declared.classes.Tally.{Tally}
-use Rattle.inspection.specs.Classes.{total, counted, class_of, added, listedAfter, countedAfter}
+use Rattle.inspection.specs.Classes.{total, counted, class_of, added, listed_after, counted_after}
 
 pub each_at : {E : Type 0} (f : E → Bool) (xs : List E) (i : ℕ) (e : E) → i < length xs → e ≡ get_or xs i e → each f xs ≡ true → f e ≡ true
 each_at f [] i e h p k = absurd (omega arith)
@@ -31,16 +31,16 @@ one_more Repeated t = omega arith
 
 module _ {E : Type 0} (shared struck : E → Bool) (same : E → E → Bool) (old tests : List E) (before : Tally) where
   pub record Going (i : ℕ) (new : List E) (tally : Tally) (len : ℕ) : Type 0 where
-    pub listed : listedAfter shared struck same (old ++ new) (drop i tests) ≡ listedAfter shared struck same old tests
-    pub counts : countedAfter shared struck same (old ++ new) (drop i tests) tally ≡ countedAfter shared struck same old tests before
+    pub listed : listed_after shared struck same (old ++ new) (drop i tests) ≡ listed_after shared struck same old tests
+    pub counts : counted_after shared struck same (old ++ new) (drop i tests) tally ≡ counted_after shared struck same old tests before
     pub few : len ≤ i
     pub all : total tally ≡ total before + i
 
   pub at_first : (new : List E) (len : ℕ) → new ≡ [] → len ≡ 0 → Going 0 new before len
   at_first new len e h =
       record {
-        listed = ap (λ xs. listedAfter shared struck same xs tests) none;
-        counts = ap (λ xs. countedAfter shared struck same xs tests before) none;
+        listed = ap (λ xs. listed_after shared struck same xs tests) none;
+        counts = ap (λ xs. counted_after shared struck same xs tests before) none;
         few = omega arith;
         all = omega arith;
       }
@@ -58,14 +58,14 @@ module _ {E : Type 0} (shared struck : E → Bool) (same : E → E → Bool) (ol
       let s : suc i ≡ i + 1 = omega arith in
       let r = next tests i e h p in
       record {
-        listed = (λ j. listedAfter shared struck same (n j) (drop (sym s j) tests)) ∙ ap (λ xs. listedAfter shared struck same (old ++ new) xs) (sym r) ∙ g.listed;
-        counts = (λ j. countedAfter shared struck same (n j) (drop (sym s j) tests) (c j)) ∙ ap (λ xs. countedAfter shared struck same (old ++ new) xs tally) (sym r) ∙ g.counts;
+        listed = (λ j. listed_after shared struck same (n j) (drop (sym s j) tests)) ∙ ap (λ xs. listed_after shared struck same (old ++ new) xs) (sym r) ∙ g.listed;
+        counts = (λ j. counted_after shared struck same (n j) (drop (sym s j) tests) (c j)) ∙ ap (λ xs. counted_after shared struck same (old ++ new) xs tally) (sym r) ∙ g.counts;
         few = let f = g.few in omega arith;
         all = let f = g.all in ap total c ∙ omega (arith, one_more k tally);
       }
 
-  pub listed-all : (i : ℕ) (new : List E) (tally : Tally) (len : ℕ) → length tests ≤ i → Going i new tally len → old ++ new ≡ listedAfter shared struck same old tests
-  listed-all i new tally len h g = ap (λ xs. listedAfter shared struck same (old ++ new) xs) (sym (none_left tests i h)) ∙ g.listed
+  pub listed-all : (i : ℕ) (new : List E) (tally : Tally) (len : ℕ) → length tests ≤ i → Going i new tally len → old ++ new ≡ listed_after shared struck same old tests
+  listed-all i new tally len h g = ap (λ xs. listed_after shared struck same (old ++ new) xs) (sym (none_left tests i h)) ∙ g.listed
 
-  pub counted-all : (i : ℕ) (new : List E) (tally : Tally) (len : ℕ) → length tests ≤ i → Going i new tally len → tally ≡ countedAfter shared struck same old tests before
-  counted-all i new tally len h g = ap (λ xs. countedAfter shared struck same (old ++ new) xs tally) (sym (none_left tests i h)) ∙ g.counts
+  pub counted-all : (i : ℕ) (new : List E) (tally : Tally) (len : ℕ) → length tests ≤ i → Going i new tally len → tally ≡ counted_after shared struck same old tests before
+  counted-all i new tally len h g = ap (λ xs. counted_after shared struck same (old ++ new) xs tally) (sym (none_left tests i h)) ∙ g.counts

@@ -8,7 +8,7 @@ use Rattle.sheet.specs.declared.rows.Point.{Point}
 use Rattle.motion.specs.declared.shapes.V3.{V3}
 use Rattle.motion.specs.declared.shapes.Moving.{Moving}
 use Rattle.motion.specs.Laws.{Within, InReach}
-use Rattle.inspection.specs.Rows.{place_of, movingOf}
+use Rattle.inspection.specs.Rows.{place_of, moving_of}
 
 held-near : (z : ℤ) → nat_abs (held z) ≤ 4096
 held-near z = go (lt_z z least) (lt_z greatest z) refl refl
@@ -21,8 +21,8 @@ held-near z = go (lt_z z least) (lt_z greatest z) refl refl
 place-near : (c : Coords) → Within 4096 (place_of c)
 place-near c = (held-near c.x, held-near c.y, held-near c.z)
 
-pub in_reach : (p : Point) (m : Moving) → m ≡ movingOf p → InReach 0 m
+pub in_reach : (p : Point) (m : Moving) → m ≡ moving_of p → InReach 0 m
 in_reach p m e = subst (InReach 0) (sym e) (place-near p.start, place-near p.end)
 
-pub made : (p : Point) (s e : V3) → s ≡ place_of p.start → e ≡ place_of p.end → ◌≡◌ {A = Moving} (record { start = s; end = e }) (movingOf p)
+pub made : (p : Point) (s e : V3) → s ≡ place_of p.start → e ≡ place_of p.end → ◌≡◌ {A = Moving} (record { start = s; end = e }) (moving_of p)
 made p s e h k = λ i. record { start = h i; end = k i }

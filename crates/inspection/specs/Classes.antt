@@ -1,14 +1,14 @@
 -- The classes of tests, and their counts.
 use Rattle.std.specs.Prelude.{ℕ, ◌+◌, ◌-◌, ◌^◌, min, Bool, cond, List, [], ◌∷◌, ◌++◌}
 use Rattle.motion.specs.declared.shapes.Shape.{Shape}
-use Rattle.motion.specs.Depths.{struckAt}
+use Rattle.motion.specs.Depths.{struck_at}
 use Rattle.inspection.specs.declared.classes.Class.{Class}
 use Rattle.inspection.specs.declared.classes.Class.TheVariants.{Kept, Struck, Shared, Repeated}
 use Rattle.inspection.specs.declared.classes.Tally.{Tally}
 use Rattle.inspection.specs.Lists.{has}
 
-abbrev pub noTests : Tally
-noTests = record { kept = 0; struck = 0; shared = 0; repeated = 0 }
+abbrev pub no_tests : Tally
+no_tests = record { kept = 0; struck = 0; shared = 0; repeated = 0 }
 
 abbrev pub total : Tally → ℕ
 total t = t.kept + t.struck + t.shared + t.repeated
@@ -34,8 +34,8 @@ together s t =
     }
 
 -- struck at a depth, of the tests that entries name
-abbrev pub struckTest : {E : Type 0} → (Shape → Bool) → ℕ → (E → Shape) → E → Bool
-struckTest set d shape e = struckAt set d (shape e)
+abbrev pub struck_test : {E : Type 0} → (Shape → Bool) → ℕ → (E → Shape) → E → Bool
+struck_test set d shape e = struck_at set d (shape e)
 
 -- what is listed after a test of this class: a kept one is added at the end
 abbrev pub added : {E : Type 0} → Class → List E → E → List E
@@ -50,10 +50,10 @@ module _ {E : Type 0} (shared struck : E → Bool) (same : E → E → Bool) whe
   abbrev pub class_of : List E → E → Class
   class_of listed e = cond (shared e) Shared (cond (struck e) Struck (cond (has same e listed) Repeated Kept))
 
-  abbrev pub listedAfter : List E → List E → List E
-  listedAfter listed [] = listed
-  listedAfter listed (e ∷ es) = listedAfter (added (class_of listed e) listed e) es
+  abbrev pub listed_after : List E → List E → List E
+  listed_after listed [] = listed
+  listed_after listed (e ∷ es) = listed_after (added (class_of listed e) listed e) es
 
-  abbrev pub countedAfter : List E → List E → Tally → Tally
-  countedAfter listed [] t = t
-  countedAfter listed (e ∷ es) t = countedAfter (added (class_of listed e) listed e) es (counted (class_of listed e) t)
+  abbrev pub counted_after : List E → List E → Tally → Tally
+  counted_after listed [] t = t
+  counted_after listed (e ∷ es) t = counted_after (added (class_of listed e) listed e) es (counted (class_of listed e) t)

@@ -11,21 +11,21 @@ use Rattle.inspection.specs.declared.faults.WindowFault.{WindowFault}
 use Rattle.inspection.specs.declared.faults.WindowFault.TheVariants as window
 
 -- places: the refused number and 0
-abbrev pub noticeAt : ℕ → Layer → ℕ → Notice
-noticeAt n l i = record { number = n; layer = l; first = i; second = 0 }
+abbrev pub notice_at : ℕ → Layer → ℕ → Notice
+notice_at n l i = record { number = n; layer = l; first = i; second = 0 }
 
-abbrev pub noticeOfOpening : OpeningFault → Notice
-noticeOfOpening (opening.TooDeep d) = noticeAt 15 Opening d
+abbrev pub notice_of_opening : OpeningFault → Notice
+notice_of_opening (opening.TooDeep d) = notice_at 15 Opening d
 
-abbrev pub noticeOfOffer : OfferFault → Notice
-noticeOfOffer offer.TableTooShort = noticeAt 16 Offer 0
-noticeOfOffer (offer.NoSuchFace f) = noticeAt 17 Offer f
-noticeOfOffer (offer.SameFace f) = noticeAt 18 Offer f
-noticeOfOffer (offer.NoSuchPoint f) = noticeAt 19 Offer f
-noticeOfOffer offer.TooManyOffers = noticeAt 20 Offer 0
-noticeOfOffer offer.ListFull = noticeAt 21 Offer 0
+abbrev pub notice_of_offer : OfferFault → Notice
+notice_of_offer offer.TableTooShort = notice_at 16 Offer 0
+notice_of_offer (offer.NoSuchFace f) = notice_at 17 Offer f
+notice_of_offer (offer.SameFace f) = notice_at 18 Offer f
+notice_of_offer (offer.NoSuchPoint f) = notice_at 19 Offer f
+notice_of_offer offer.TooManyOffers = notice_at 20 Offer 0
+notice_of_offer offer.ListFull = notice_at 21 Offer 0
 
-abbrev pub noticeOfWindow : WindowFault → Notice
-noticeOfWindow window.TableTooShort = noticeAt 16 Window 0
-noticeOfWindow (window.NoSuchEntry i) = noticeAt 22 Window i
-noticeOfWindow (window.NotOfTheSheet i) = noticeAt 19 Window i
+abbrev pub notice_of_window : WindowFault → Notice
+notice_of_window window.TableTooShort = notice_at 16 Window 0
+notice_of_window (window.NoSuchEntry i) = notice_at 22 Window i
+notice_of_window (window.NotOfTheSheet i) = notice_at 19 Window i

@@ -5,11 +5,11 @@ use Rattle.inspection.specs.declared.names.VfName.{VfName}
 use Rattle.inspection.specs.declared.names.EeName.{EeName}
 use Rattle.inspection.specs.declared.names.Edge.{Edge}
 
-abbrev pub vfSame : VfName → VfName → Bool
-vfSame x y = x.point == y.point && x.face == y.face
+abbrev pub vf_same : VfName → VfName → Bool
+vf_same x y = x.point == y.point && x.face == y.face
 
-abbrev pub eeSame : EeName → EeName → Bool
-eeSame x y = x.u == y.u && x.v == y.v && x.k == y.k && x.l == y.l
+abbrev pub ee_same : EeName → EeName → Bool
+ee_same x y = x.u == y.u && x.v == y.v && x.k == y.k && x.l == y.l
 
 -- an edge has its lower number first
 abbrev pub edge_of : ℕ → ℕ → Edge
@@ -19,12 +19,12 @@ abbrev pub meet : Edge → Edge → EeName
 meet e f = record { u = e.first; v = e.second; k = f.first; l = f.second }
 
 -- the edge with the lower first number is u, v
-abbrev pub eeNameOf : Edge → Edge → EeName
-eeNameOf e f = cond (nat_lt f.first e.first) (meet f e) (meet e f)
+abbrev pub ee_name_of : Edge → Edge → EeName
+ee_name_of e f = cond (nat_lt f.first e.first) (meet f e) (meet e f)
 
 -- a test is shared when its point is a corner of its face or its edges have a common point
 abbrev pub corner : ℕ → Face → Bool
 corner p f = p == f.a || p == f.b || p == f.c
 
-abbrev pub eeShared : EeName → Bool
-eeShared n = n.u == n.k || n.u == n.l || n.v == n.k || n.v == n.l
+abbrev pub ee_shared : EeName → Bool
+ee_shared n = n.u == n.k || n.u == n.l || n.v == n.k || n.v == n.l

@@ -4,28 +4,28 @@ use Rattle.sheet.specs.declared.rows.Face.{Face}
 use Rattle.inspection.specs.declared.names.VfName.{VfName}
 use Rattle.inspection.specs.declared.names.EeName.{EeName}
 use Rattle.inspection.specs.declared.names.Edge.{Edge}
-use Rattle.inspection.specs.Names.{edge_of, eeNameOf}
+use Rattle.inspection.specs.Names.{edge_of, ee_name_of}
 
 -- each corner of a face against the face with this number
-abbrev pub cornersAgainst : Face → ℕ → List VfName
-cornersAgainst f n =
+abbrev pub corners_against : Face → ℕ → List VfName
+corners_against f n =
     record { point = f.a; face = n } ∷ record { point = f.b; face = n } ∷ record { point = f.c; face = n } ∷ []
 
 -- of the faces with the numbers m and n: the corners of the first against the second, then of the second against the first
-abbrev pub vfTests : ℕ → Face → ℕ → Face → List VfName
-vfTests m f n g = cornersAgainst f n ++ cornersAgainst g m
+abbrev pub vf_tests : ℕ → Face → ℕ → Face → List VfName
+vf_tests m f n g = corners_against f n ++ corners_against g m
 
 abbrev pub edges : Face → List Edge
 edges f = edge_of f.a f.b ∷ edge_of f.b f.c ∷ edge_of f.c f.a ∷ []
 
-abbrev pub edgeAgainst : Edge → List Edge → List EeName
-edgeAgainst e [] = []
-edgeAgainst e (f ∷ fs) = eeNameOf e f ∷ edgeAgainst e fs
+abbrev pub edge_against : Edge → List Edge → List EeName
+edge_against e [] = []
+edge_against e (f ∷ fs) = ee_name_of e f ∷ edge_against e fs
 
 -- each edge of the first, against those of the second
-abbrev pub edgesAgainst : List Edge → List Edge → List EeName
-edgesAgainst [] fs = []
-edgesAgainst (e ∷ es) fs = edgeAgainst e fs ++ edgesAgainst es fs
+abbrev pub edges_against : List Edge → List Edge → List EeName
+edges_against [] fs = []
+edges_against (e ∷ es) fs = edge_against e fs ++ edges_against es fs
 
-abbrev pub eeTests : Face → Face → List EeName
-eeTests f g = edgesAgainst (edges f) (edges g)
+abbrev pub ee_tests : Face → Face → List EeName
+ee_tests f g = edges_against (edges f) (edges g)

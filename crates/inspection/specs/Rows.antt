@@ -16,8 +16,8 @@ use Rattle.inspection.specs.Names.{corner}
 abbrev pub place_of : Coords → V3
 place_of c = record { x = held c.x; y = held c.y; z = held c.z }
 
-abbrev pub movingOf : Point → Moving
-movingOf p = record { start = place_of p.start; end = place_of p.end }
+abbrev pub moving_of : Point → Moving
+moving_of p = record { start = place_of p.start; end = place_of p.end }
 
 -- past the end of a table: never asked for
 abbrev pub nowhere : Point
@@ -27,48 +27,48 @@ nowhere =
       end = record { x = pos 0; y = pos 0; z = pos 0 };
     }
 
-abbrev pub noFace : Face
-noFace = record { a = 0; b = 0; c = 0 }
+abbrev pub no_face : Face
+no_face = record { a = 0; b = 0; c = 0 }
 
-abbrev pub pointAt : List Point → ℕ → Moving
-pointAt ps i = movingOf (slice_index_or ps i nowhere)
+abbrev pub point_at : List Point → ℕ → Moving
+point_at ps i = moving_of (slice_index_or ps i nowhere)
 
-abbrev pub faceAt : List Face → ℕ → Face
-faceAt fs i = slice_index_or fs i noFace
+abbrev pub face_at : List Face → ℕ → Face
+face_at fs i = slice_index_or fs i no_face
 
 -- the tests, at scale 0
-abbrev pub vfShape : List Point → List Face → VfName → Shape
-vfShape ps fs n =
+abbrev pub vf_shape : List Point → List Face → VfName → Shape
+vf_shape ps fs n =
     record {
       kind = Vf;
-      p = pointAt ps n.point;
-      a = pointAt ps (faceAt fs n.face).a;
-      b = pointAt ps (faceAt fs n.face).b;
-      c = pointAt ps (faceAt fs n.face).c;
+      p = point_at ps n.point;
+      a = point_at ps (face_at fs n.face).a;
+      b = point_at ps (face_at fs n.face).b;
+      c = point_at ps (face_at fs n.face).c;
       scale = 0;
     }
 
-abbrev pub eeShape : List Point → EeName → Shape
-eeShape ps n =
+abbrev pub ee_shape : List Point → EeName → Shape
+ee_shape ps n =
     record {
       kind = Ee;
-      p = pointAt ps n.l;
-      a = pointAt ps n.k;
-      b = pointAt ps n.u;
-      c = pointAt ps n.v;
+      p = point_at ps n.l;
+      a = point_at ps n.k;
+      b = point_at ps n.u;
+      c = point_at ps n.v;
       scale = 0;
     }
 
-abbrev pub vfShared : List Face → VfName → Bool
-vfShared fs n = corner n.point (faceAt fs n.face)
+abbrev pub vf_shared : List Face → VfName → Bool
+vf_shared fs n = corner n.point (face_at fs n.face)
 
 -- ---- numbers of the sheet
-abbrev pub cornersInside : List Point → Face → Bool
-cornersInside ps f = nat_lt f.a (length ps) && nat_lt f.b (length ps) && nat_lt f.c (length ps)
+abbrev pub corners_inside : List Point → Face → Bool
+corners_inside ps f = nat_lt f.a (length ps) && nat_lt f.b (length ps) && nat_lt f.c (length ps)
 
 -- its point, its face number and the corners of that face
-abbrev pub vfInside : List Point → List Face → VfName → Bool
-vfInside ps fs n = nat_lt n.point (length ps) && nat_lt n.face (length fs) && cornersInside ps (faceAt fs n.face)
+abbrev pub vf_inside : List Point → List Face → VfName → Bool
+vf_inside ps fs n = nat_lt n.point (length ps) && nat_lt n.face (length fs) && corners_inside ps (face_at fs n.face)
 
-abbrev pub eeInside : List Point → EeName → Bool
-eeInside ps n = nat_lt n.u (length ps) && nat_lt n.v (length ps) && nat_lt n.k (length ps) && nat_lt n.l (length ps)
+abbrev pub ee_inside : List Point → EeName → Bool
+ee_inside ps n = nat_lt n.u (length ps) && nat_lt n.v (length ps) && nat_lt n.k (length ps) && nat_lt n.l (length ps)

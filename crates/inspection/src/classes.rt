@@ -1,6 +1,6 @@
 // The classes of tests, and their counts.
 ghost use Rattle.std.specs.Prelude.{◌≡◌, ◌^◌, ◌<◌};
-ghost use Rattle.inspection.specs.Classes.{noTests, total, counted, together};
+ghost use Rattle.inspection.specs.Classes.{no_tests, total, counted, together};
 
 /// What became of a test of an offer: the first of shared, struck, repeated and kept that fits.
 #[derive(Clone, Copy)]
@@ -22,7 +22,7 @@ pub struct Tally {
 
 impl Tally {
     pub(crate) fn none() -> Tally
-        ensures { result ≡ noTests }
+        ensures { result ≡ no_tests }
     {
         Tally {
             kept: 0,

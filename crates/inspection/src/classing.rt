@@ -1,7 +1,7 @@
 // The class of each test of an offer.
 ghost use Rattle.std.specs.Prelude.{◌≡◌, ◌+◌, ◌^◌, ◌<◌, ◌≤◌, true, ◌++◌, length};
 ghost use Rattle.motion.specs.Lists.{each};
-ghost use Rattle.inspection.specs.Classes.{total, counted, struckTest, class_of, added, listedAfter, countedAfter};
+ghost use Rattle.inspection.specs.Classes.{total, counted, struck_test, class_of, added, listed_after, counted_after};
 ghost use Rattle.inspection.specs.Lists.{table, entries};
 
 use crate::classes::{Class, Tally};
@@ -14,7 +14,7 @@ use filters::{Filter, struck_at};
 fn is_struck<E: TestName, F: Filter>(e: E, sheet: Sheet<'_>, filter: &F, depth: u8) -> bool
     requires inside { E.TestName.inside sheet.points.now sheet.faces.now e ≡ true }
     requires depth { depth ≤ 6 }
-    ensures { result ≡ struckTest (F.Filter.struck filter.now) depth (E.TestName.shape sheet.entry.points.now sheet.entry.faces.now) e }
+    ensures { result ≡ struck_test (F.Filter.struck filter.now) depth (E.TestName.shape sheet.entry.points.now sheet.entry.faces.now) e }
 {
     let test = e.test(sheet);
     let Some(struck) = struck_at(filter, &test, depth) else {
@@ -34,7 +34,7 @@ fn class_of<E: TestName, F: Filter>(
 ) -> Class
     requires inside { E.TestName.inside sheet.points.now sheet.faces.now e ≡ true }
     requires depth { depth ≤ 6 }
-    ensures { result ≡ class_of (E.TestName.shared sheet.entry.faces.now) (struckTest (F.Filter.struck filter.now) depth (E.TestName.shape sheet.entry.points.now sheet.entry.faces.now)) E.Entry.same (entries old.now ++ entries new.now) e }
+    ensures { result ≡ class_of (E.TestName.shared sheet.entry.faces.now) (struck_test (F.Filter.struck filter.now) depth (E.TestName.shape sheet.entry.points.now sheet.entry.faces.now)) E.Entry.same (entries old.now ++ entries new.now) e }
 {
     if e.is_shared(sheet) {
         return Class::Shared;
@@ -65,8 +65,8 @@ fn take_one<E: TestName, F: Filter>(
     requires depth { depth ≤ 6 }
     requires room { new.old.len < length (table new.old) }
     requires few { total tally.old < 2 ^ 31 }
-    ensures listed { entries old.now ++ entries new.new ≡ added (class_of (E.TestName.shared sheet.entry.faces.now) (struckTest (F.Filter.struck filter.now) depth (E.TestName.shape sheet.entry.points.now sheet.entry.faces.now)) E.Entry.same (entries old.now ++ entries new.old) e) (entries old.now ++ entries new.old) e }
-    ensures tally { tally.new ≡ counted (class_of (E.TestName.shared sheet.entry.faces.now) (struckTest (F.Filter.struck filter.now) depth (E.TestName.shape sheet.entry.points.now sheet.entry.faces.now)) E.Entry.same (entries old.now ++ entries new.old) e) tally.old }
+    ensures listed { entries old.now ++ entries new.new ≡ added (class_of (E.TestName.shared sheet.entry.faces.now) (struck_test (F.Filter.struck filter.now) depth (E.TestName.shape sheet.entry.points.now sheet.entry.faces.now)) E.Entry.same (entries old.now ++ entries new.old) e) (entries old.now ++ entries new.old) e }
+    ensures tally { tally.new ≡ counted (class_of (E.TestName.shared sheet.entry.faces.now) (struck_test (F.Filter.struck filter.now) depth (E.TestName.shape sheet.entry.points.now sheet.entry.faces.now)) E.Entry.same (entries old.now ++ entries new.old) e) tally.old }
     ensures len { new.new.len ≤ new.old.len + 1 }
     ensures room { length (table new.new) ≡ length (table new.old) }
     ensures name { new.new.places.ghost_name ≡ new.old.places.ghost_name }
@@ -93,8 +93,8 @@ pub(crate) fn class_all<E: TestName, F: Filter>(
     requires empty { new.old.len ≡ 0 }
     requires room { length tests.now ≤ length (table new.old) }
     requires few { total tally.old + length tests.now ≤ 2 ^ 31 }
-    ensures listed { entries old.now ++ entries new.new ≡ listedAfter (E.TestName.shared sheet.entry.faces.now) (struckTest (F.Filter.struck filter.now) depth (E.TestName.shape sheet.entry.points.now sheet.entry.faces.now)) E.Entry.same (entries old.now) tests.now }
-    ensures tally { tally.new ≡ countedAfter (E.TestName.shared sheet.entry.faces.now) (struckTest (F.Filter.struck filter.now) depth (E.TestName.shape sheet.entry.points.now sheet.entry.faces.now)) E.Entry.same (entries old.now) tests.now tally.old }
+    ensures listed { entries old.now ++ entries new.new ≡ listed_after (E.TestName.shared sheet.entry.faces.now) (struck_test (F.Filter.struck filter.now) depth (E.TestName.shape sheet.entry.points.now sheet.entry.faces.now)) E.Entry.same (entries old.now) tests.now }
+    ensures tally { tally.new ≡ counted_after (E.TestName.shared sheet.entry.faces.now) (struck_test (F.Filter.struck filter.now) depth (E.TestName.shape sheet.entry.points.now sheet.entry.faces.now)) E.Entry.same (entries old.now) tests.now tally.old }
     ensures name { new.new.places.ghost_name ≡ new.old.places.ghost_name }
 {
     for i in 0..tests.len() {

@@ -1,6 +1,6 @@
 // Why a call of an inspection is refused.
 ghost use Rattle.std.specs.Prelude.{◌≡◌};
-ghost use Rattle.inspection.specs.Faults.{noticeAt, noticeOfOpening, noticeOfOffer, noticeOfWindow};
+ghost use Rattle.inspection.specs.Faults.{notice_at, notice_of_opening, notice_of_offer, notice_of_window};
 
 use sheet::{Layer, Notice};
 
@@ -38,7 +38,7 @@ pub enum WindowFault {
 }
 
 fn notice(number: u8, layer: Layer, first: u32) -> Notice
-    ensures { result ≡ noticeAt number layer first }
+    ensures { result ≡ notice_at number layer first }
 {
     Notice {
         number,
@@ -51,7 +51,7 @@ fn notice(number: u8, layer: Layer, first: u32) -> Notice
 impl OpeningFault {
     /// The fault's number, layer and places.
     pub fn notice(self) -> Notice
-        ensures { result ≡ noticeOfOpening self }
+        ensures { result ≡ notice_of_opening self }
     {
         match self {
             OpeningFault::TooDeep(depth) => notice(15, Layer::Opening, u32::from(depth)),
@@ -62,7 +62,7 @@ impl OpeningFault {
 impl OfferFault {
     /// The fault's number, layer and places.
     pub fn notice(self) -> Notice
-        ensures { result ≡ noticeOfOffer self }
+        ensures { result ≡ notice_of_offer self }
     {
         match self {
             OfferFault::TableTooShort => notice(16, Layer::Offer, 0),
@@ -78,7 +78,7 @@ impl OfferFault {
 impl WindowFault {
     /// The fault's number, layer and places.
     pub fn notice(self) -> Notice
-        ensures { result ≡ noticeOfWindow self }
+        ensures { result ≡ notice_of_window self }
     {
         match self {
             WindowFault::TableTooShort => notice(16, Layer::Window, 0),

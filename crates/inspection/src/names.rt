@@ -1,6 +1,6 @@
 // The names of tests.
 ghost use Rattle.std.specs.Prelude.{◌≡◌};
-ghost use Rattle.inspection.specs.Names.{edge_of, eeNameOf, meet, eeShared, corner, vfSame, eeSame};
+ghost use Rattle.inspection.specs.Names.{edge_of, ee_name_of, meet, ee_shared, corner, vf_same, ee_same};
 ghost use Rattle.std.proofs.Common.{rules};
 
 use crate::entries::Entry;
@@ -23,7 +23,7 @@ pub struct EeName {
 }
 
 impl Entry for VfName {
-    ghost same = { vfSame };
+    ghost same = { vf_same };
 
     ghost itself = { Prim.search rules };
 
@@ -37,7 +37,7 @@ impl Entry for VfName {
 }
 
 impl Entry for EeName {
-    ghost same = { eeSame };
+    ghost same = { ee_same };
 
     ghost itself = { Prim.search rules };
 
@@ -75,7 +75,7 @@ impl Edge {
 
     /// The test of two edges: the one with the lower first number is u, v.
     pub(crate) fn against(self, other: Edge) -> EeName
-        ensures { result ≡ eeNameOf self other }
+        ensures { result ≡ ee_name_of self other }
     {
         if other.first < self.first {
             return named(other, self);
@@ -98,7 +98,7 @@ fn named(one: Edge, other: Edge) -> EeName
 impl EeName {
     /// Whether the edges have a common point.
     pub(crate) fn has_common_point(self) -> bool
-        ensures { result ≡ eeShared self }
+        ensures { result ≡ ee_shared self }
     {
         self.u == self.k || self.u == self.l || self.v == self.k || self.v == self.l
     }

@@ -1,8 +1,8 @@
 // The checks of an offer.
 ghost use Rattle.std.specs.Prelude.{◌≡◌, ◌<◌};
 ghost use Rattle.sheet.specs.Checks.{answer, told};
-ghost use Rattle.inspection.specs.Faults.{noticeOfOffer};
-ghost use Rattle.inspection.specs.Offers.{short, cornersBelow, offerChecks};
+ghost use Rattle.inspection.specs.Faults.{notice_of_offer};
+ghost use Rattle.inspection.specs.Offers.{short, corners_below, offer_checks};
 
 use crate::faults::OfferFault;
 use sheet::{Draft, Face, Point};
@@ -19,7 +19,7 @@ pub(crate) fn check_offer(
     second: u16,
     accepted: u32,
 ) -> Result<(), OfferFault>
-    ensures { told noticeOfOffer result ≡ answer (offerChecks draft.now.points points.now draft.now.faces faces.now first second accepted) tt }
+    ensures { told notice_of_offer result ≡ answer (offer_checks draft.now.points points.now draft.now.faces faces.now first second accepted) tt }
 {
     if are_short(draft, points, faces) {
         return Err(OfferFault::TableTooShort);
@@ -54,7 +54,7 @@ pub(crate) fn are_short(draft: &Draft, points: &[Point], faces: &[Face]) -> bool
 
 /// Whether each corner of the face is one of so many points.
 pub(crate) fn has_points(points: u16, face: Face) -> bool
-    ensures { result ≡ cornersBelow points face }
+    ensures { result ≡ corners_below points face }
 {
     face.a < points && face.b < points && face.c < points
 }

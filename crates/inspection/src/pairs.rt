@@ -1,13 +1,13 @@
 // The fifteen tests of two faces.
 ghost use Rattle.std.specs.Prelude.{◌≡◌};
-ghost use Rattle.inspection.specs.Pairs.{vfTests, edges, eeTests};
+ghost use Rattle.inspection.specs.Pairs.{vf_tests, edges, ee_tests};
 
 use crate::names::{Edge, EeName, VfName};
 use sheet::Face;
 
 /// The corners of each face against the other: `m` and `n` are the numbers of `f` and `g`.
 pub(crate) fn vf_tests(m: u16, f: Face, n: u16, g: Face) -> [VfName; 6]
-    ensures { result ≡ vfTests m f n g }
+    ensures { result ≡ vf_tests m f n g }
 {
     [
         VfName {
@@ -39,7 +39,7 @@ pub(crate) fn vf_tests(m: u16, f: Face, n: u16, g: Face) -> [VfName; 6]
 
 /// The edges of the first against those of the second.
 pub(crate) fn ee_tests(f: Face, g: Face) -> [EeName; 9]
-    ensures { result ≡ eeTests f g }
+    ensures { result ≡ ee_tests f g }
 {
     let [a, b, c] = edges(f);
     let [p, q, r] = edges(g);

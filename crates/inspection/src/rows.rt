@@ -1,14 +1,14 @@
 // The points of a sheet's rows, as they count.
 ghost use Rattle.std.specs.Prelude.{◌≡◌};
 ghost use Rattle.motion.specs.Laws.{InReach};
-ghost use Rattle.inspection.specs.Rows.{place_of, movingOf};
+ghost use Rattle.inspection.specs.Rows.{place_of, moving_of};
 
 use motion::{Moving, V3};
 use sheet::{Coords, Point, held};
 
 /// A row's point, each coordinate as it counts.
 pub(crate) fn moving(point: Point) -> Moving
-    ensures value { result ≡ movingOf point }
+    ensures value { result ≡ moving_of point }
     ensures reach { InReach 0 result }
 {
     Moving {

@@ -1,7 +1,7 @@
 // A sheet as it lies in the first rows of the caller's tables.
 ghost use Rattle.std.specs.Prelude.{◌≡◌, ◌<◌, length};
 ghost use Rattle.motion.specs.Laws.{InReach};
-ghost use Rattle.inspection.specs.Rows.{pointAt, faceAt};
+ghost use Rattle.inspection.specs.Rows.{point_at, face_at};
 
 use crate::rows::moving;
 use motion::Moving;
@@ -18,7 +18,7 @@ impl<'a> Sheet<'a> {
     /// A point, each coordinate as it counts.
     pub(crate) fn point(self, i: u16) -> Moving
         requires { i < length self.points.now }
-        ensures value { result ≡ pointAt self.entry.points.now i }
+        ensures value { result ≡ point_at self.entry.points.now i }
         ensures reach { InReach 0 result }
     {
         moving(self.points[i as usize])
@@ -26,7 +26,7 @@ impl<'a> Sheet<'a> {
 
     pub(crate) fn face(self, i: u16) -> Face
         requires { i < length self.faces.now }
-        ensures { result ≡ faceAt self.entry.faces.now i }
+        ensures { result ≡ face_at self.entry.faces.now i }
     {
         self.faces[i as usize]
     }

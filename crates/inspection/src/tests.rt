@@ -4,8 +4,8 @@ ghost use Rattle.motion.specs.declared.shapes.Shape.{Shape};
 ghost use Rattle.motion.specs.Laws.{InReach};
 ghost use Rattle.sheet.specs.declared.rows.Point.{Point};
 ghost use Rattle.sheet.specs.declared.rows.Face.{Face};
-ghost use Rattle.inspection.specs.Names.{eeShared};
-ghost use Rattle.inspection.specs.Rows.{vfShape, eeShape, vfShared, vfInside, eeInside};
+ghost use Rattle.inspection.specs.Names.{ee_shared};
+ghost use Rattle.inspection.specs.Rows.{vf_shape, ee_shape, vf_shared, vf_inside, ee_inside};
 ghost use Rattle.std.proofs.Common.{rules};
 
 use crate::entries::Entry;
@@ -36,11 +36,11 @@ pub(crate) trait TestName: Entry {
 }
 
 impl TestName for VfName {
-    ghost inside = { vfInside };
+    ghost inside = { vf_inside };
 
-    ghost shared = { vfShared };
+    ghost shared = { vf_shared };
 
-    ghost shape = { vfShape };
+    ghost shape = { vf_shape };
 
     ghost unscaled = { Prim.search rules };
 
@@ -59,11 +59,11 @@ impl TestName for VfName {
 }
 
 impl TestName for EeName {
-    ghost inside = { λ ps fs n. eeInside ps n };
+    ghost inside = { λ ps fs n. ee_inside ps n };
 
-    ghost shared = { λ fs n. eeShared n };
+    ghost shared = { λ fs n. ee_shared n };
 
-    ghost shape = { λ ps fs n. eeShape ps n };
+    ghost shape = { λ ps fs n. ee_shape ps n };
 
     ghost unscaled = { Prim.search rules };
 

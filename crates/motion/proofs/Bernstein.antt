@@ -2,17 +2,17 @@
 use Rattle.std.proofs.Common.{◌≡◌, ℕ, zero, suc, ◌+◌, ◌-◌, ◌*◌, ◌^◌, ◌≤◌, T, ltb, [], ◌∷◌, ℤ, pos, negsuc, ◌+ℤ◌, ◌*ℤ◌, neg_ℤ, nat_abs, ◌≤ℤ◌, ◌<ℤ◌, ap, ◌∙◌, subst, inl, inr, pow-suc, arith, ltb→lt}
 use native.Mathlib.Nat.{pow-zero}
 use borrow.Author.Differences.{ints}
-use Rattle.motion.proofs.Determinants.{Triple, det, along, detOf, G0, G1, G2, G3, Above, One-sign}
+use Rattle.motion.proofs.Determinants.{Triple, det, along, det_of, G0, G1, G2, G3, Above, One-sign}
 use Rattle.motion.proofs.Ring.{Exp, var, con, ◌⊕◌, ◌⊗◌, ring}
-use Rattle.motion.proofs.Expressions.{detOfᵉ, alongᵉ, G0ᵉ, G1ᵉ, G2ᵉ, G3ᵉ, moving, S, E}
+use Rattle.motion.proofs.Expressions.{det_ofᵉ, alongᵉ, G0ᵉ, G1ᵉ, G2ᵉ, G3ᵉ, moving, S, E}
 
 -- r is what is left of the step, p what is past
 bernstein : (s e : Triple) (r p : ℤ)
-    → pos 3 *ℤ detOf (along r p s e)
+    → pos 3 *ℤ det_of (along r p s e)
     ≡ G0 s e *ℤ (r *ℤ r *ℤ r) +ℤ pos 3 *ℤ G1 s e *ℤ (p *ℤ (r *ℤ r)) +ℤ pos 3 *ℤ G2 s e *ℤ (p *ℤ p *ℤ r) +ℤ G3 s e *ℤ (p *ℤ p *ℤ p)
 unfolding det along G0 G1 G2 G3
 bernstein s e r p =
-    ring (moving s e (r ∷ p ∷ [])) (con (pos 3) ⊗ detOfᵉ (alongᵉ rest past S E))
+    ring (moving s e (r ∷ p ∷ [])) (con (pos 3) ⊗ det_ofᵉ (alongᵉ rest past S E))
     (G0ᵉ S E ⊗ (rest ⊗ rest ⊗ rest) ⊕ con (pos 3) ⊗ G1ᵉ S E ⊗ (past ⊗ (rest ⊗ rest)) ⊕ con (pos 3) ⊗ G2ᵉ S E ⊗ (past ⊗ past ⊗ rest) ⊕ G3ᵉ S E ⊗ (past ⊗ past ⊗ past)) tt
   where
     rest : Exp
@@ -36,7 +36,7 @@ cube-of-sum : (r p : ℕ) → (r + p) ^ 3 ≡ r * r * r + 3 * (p * (r * r)) + 3 
 cube-of-sum r p = pow-suc (r + p) 2 ∙ ap (λ (n : ℕ). n * (r + p)) (pow-suc (r + p) 1 ∙ ap (λ (n : ℕ). n * (r + p)) (pow-suc (r + p) 0 ∙ ap (λ (n : ℕ). n * (r + p)) (pow-zero (r + p)))) ∙ omega arith
 
 -- at naturals r and p, where r + p is q
-apart-at : (s e : Triple) (r p : ℕ) → Above s e → pos ((r + p) ^ 3) ≤ℤ (pos 3 *ℤ detOf (along (pos r) (pos p) s e))
+apart-at : (s e : Triple) (r p : ℕ) → Above s e → pos ((r + p) ^ 3) ≤ℤ (pos 3 *ℤ det_of (along (pos r) (pos p) s e))
 apart-at s e r p h =
     omega (arith, ints, cube-of-sum r p, bernstein s e (pos r) (pos p), times-ge (G0 s e) (r * r * r) h.at0, times3-ge (G1 s e) (p * (r * r)) h.at1, times3-ge (G2 s e) (p * p * r) h.at2, times-ge (G3 s e) (p * p * p) h.at3)
 
@@ -59,9 +59,9 @@ four_below x a b c d k l m n e ha hb hc hd = omega (arith, ints)
 size_below : (d : ℤ) (n : ℕ) → (pos 3 *ℤ d) ≤ℤ neg_ℤ (pos n) → n ≤ 3 * nat_abs d
 size_below d n h = omega (arith, ints)
 
-pub never-flat : (s e : Triple) (r p : ℕ) → One-sign s e → (r + p) ^ 3 ≤ 3 * nat_abs (detOf (along (pos r) (pos p) s e))
+pub never-flat : (s e : Triple) (r p : ℕ) → One-sign s e → (r + p) ^ 3 ≤ 3 * nat_abs (det_of (along (pos r) (pos p) s e))
 never-flat s e r p (inl h) = omega (arith, ints, apart-at s e r p h)
 never-flat s e r p (inr h) =
-    rw (cube-of-sum r p) (size_below (detOf (along (pos r) (pos p) s e)) _
-    (four_below (pos 3 *ℤ detOf (along (pos r) (pos p) s e)) _ _ _ _ (r * r * r) (3 * (p * (r * r))) (3 * (p * p * r)) (p * p * p) (bernstein s e (pos r) (pos p))
+    rw (cube-of-sum r p) (size_below (det_of (along (pos r) (pos p) s e)) _
+    (four_below (pos 3 *ℤ det_of (along (pos r) (pos p) s e)) _ _ _ _ (r * r * r) (3 * (p * (r * r))) (3 * (p * p * r)) (p * p * p) (bernstein s e (pos r) (pos p))
     (times-le (G0 s e) (r * r * r) h.at0) (times3-le (G1 s e) (p * (r * r)) h.at1) (times3-le (G2 s e) (p * p * r) h.at2) (times-le (G3 s e) (p * p * p) h.at3)))

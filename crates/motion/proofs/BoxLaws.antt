@@ -14,7 +14,7 @@ use Rattle.motion.specs.declared.shapes.Shape.{Shape}
 use Rattle.motion.specs.Vectors.{◌+ᵛ◌, ◌-ᵛ◌, ◌·ᵛ◌, dot, vector}
 use Rattle.motion.specs.Features.{firsts, seconds, first, second}
 use Rattle.motion.specs.Laws.{Valid, Within, Apart, Lawful, at, after, portion, half}
-use Rattle.motion.specs.Box.{greatest, least, coordinates, under, partedOn, boxSet}
+use Rattle.motion.specs.Box.{greatest, least, coordinates, under, parted_on, box_set}
 use Rattle.motion.proofs.Ring.{Exp, var, con, ◌⊕◌, ◌⊗◌, ◌⊖◌, ring}
 use Rattle.motion.proofs.Expressions.{◌+ᵉ◌, ◌-ᵉ◌, ◌·ᵉ◌, dotᵉ, vars, put}
 use Rattle.motion.proofs.Alls.{All, all_map}
@@ -144,7 +144,7 @@ module _ (axis : V3 → ℤ) (a : Axis axis) where
       beyond : (u v : V3) → axis u ≤ℤ G axis ms → L axis ns ≤ℤ axis v → pos 0 <ℤ dot (opposite a.way) (u -ᵛ v)
       beyond u v p q = larger (G axis ms) (L axis ns) (axis u) (axis v) (dot a.way (u -ᵛ v)) _ h (opposite-dot a.way (u -ᵛ v)) (minus-product u v) p q
 
-  parted-apart : (t : Shape) → Valid t → partedOn axis t ≡ true → Apart t
+  parted-apart : (t : Shape) → Valid t → parted_on axis t ≡ true → Apart t
   parted-apart t v h =
       ⊎_elim
       (λ e. beyonds-apart t v (opposite a.way) (opposite-within a.way a.within) (beneath (first t) (second t) e))
@@ -210,7 +210,7 @@ module _ (axis : V3 → ℤ) (a : Axis axis) where
     under-kinds Vf p a b c = (under-half p [] a (b ∷ c ∷ []), under-half a (b ∷ c ∷ []) p [])
     under-kinds Ee p a b c = (under-half b (c ∷ []) a (p ∷ []), under-half a (p ∷ []) b (c ∷ []))
 
-  parted-half : (t : Shape) (j : ℕ) → Half (portion 1 j) → partedOn axis t ≡ true → partedOn axis (half j t) ≡ true
+  parted-half : (t : Shape) (j : ℕ) → Half (portion 1 j) → parted_on axis t ≡ true → parted_on axis (half j t) ≡ true
   parted-half t j k h =
       let q = under-kinds (portion 1 j) k t.kind t.p t.a t.b t.c in
       ⊎_elim
@@ -218,7 +218,7 @@ module _ (axis : V3 → ℤ) (a : Axis axis) where
       (λ e. or_right (under axis (first (half j t)) (second (half j t))) _ (transport (λ i. under axis (others-of t j i) (ones-of t j i) ≡ true) (q.1 e)))
       (or_cases (under axis (first t) (second t)) (under axis (second t) (first t)) h)
 
-  axis-lawful : Lawful (partedOn axis)
+  axis-lawful : Lawful (parted_on axis)
   axis-lawful = record { apart = parted-apart; halves = λ t v k h. (parted-half t 0 first-half h, parted-half t 1 last-half h) }
 
 -- ---- the three axes
@@ -240,5 +240,5 @@ on-y = record { way = vector (pos 0) (pos 1) (pos 0); within = search arith; pro
 pub on-z : Axis z
 on-z = record { way = vector (pos 0) (pos 0) (pos 1); within = search arith; product = product-z }
 
-pub box-lawful : Lawful boxSet
+pub box-lawful : Lawful box_set
 box-lawful = row_lawful (row_lawful (axis-lawful x on-x) (axis-lawful y on-y)) (axis-lawful z on-z)

@@ -3,7 +3,7 @@ use Rattle.std.proofs.Common.{◌≡◌, ℕ, zero, suc, ◌+◌, ◌-◌, ◌*�
 use Rattle.std.proofs.lemmas.Bool.{and_parts, and_from}
 use Rattle.motion.specs.declared.shapes.Shape.{Shape}
 use Rattle.motion.specs.Laws.{Valid, Apart, Lawful, subinterval, half}
-use Rattle.motion.specs.Depths.{every, struckAt, Struck}
+use Rattle.motion.specs.Depths.{every, struck_at, Struck}
 use Rattle.motion.proofs.Subintervals.{nested-subinterval, whole, valid-first, valid-last}
 use Rattle.motion.proofs.HalvesApart.{halves-apart}
 
@@ -27,13 +27,13 @@ every_more f m (suc n) =
     one_more = omega arith
 
 module _ (set : Shape → Bool) where
-  pub struck-whole : (t : Shape) → struckAt set 0 t ≡ set t
-  unfolding struckAt
+  pub struck-whole : (t : Shape) → struck_at set 0 t ≡ set t
+  unfolding struck_at
   struck-whole t = ap set (whole t)
 
   -- all parts of the whole are those of its first half, and those of its last
-  pub struck-step : (d : ℕ) (t : Shape) → struckAt set (suc d) t ≡ (struckAt set d (half 0 t) && struckAt set d (half 1 t))
-  unfolding struckAt
+  pub struck-step : (d : ℕ) (t : Shape) → struck_at set (suc d) t ≡ (struck_at set d (half 0 t) && struck_at set d (half 1 t))
+  unfolding struck_at
   struck-step d t =
       ap (every part) twice ∙ every_more part (2 ^ d) (2 ^ d)
       ∙ (λ i. every (λ j. set (first_of j i)) (2 ^ d) && every (λ j. set (last_of j i)) (2 ^ d))
@@ -58,45 +58,45 @@ module _ (set : Shape → Bool) where
 
 module _ (set : Shape → Bool) (l : Lawful set) where
   -- struck whole is struck in every part
-  pub whole-struck : (d : ℕ) (t : Shape) → Valid t → t.scale + d ≤ 6 → set t ≡ true → struckAt set d t ≡ true
+  pub whole-struck : (d : ℕ) (t : Shape) → Valid t → t.scale + d ≤ 6 → set t ≡ true → struck_at set d t ≡ true
   whole-struck zero t v k h = struck-whole set t ∙ h
   whole-struck (suc d) t v k h =
       let c : t.scale ≤ 5 = omega arith in
       let s = l.halves t v c h in
-      struck-step set d t ∙ and_from (struckAt set d (half 0 t)) (struckAt set d (half 1 t))
+      struck-step set d t ∙ and_from (struck_at set d (half 0 t)) (struck_at set d (half 1 t))
       (whole-struck d (half 0 t) (valid-first t v c) (omega arith) s.0) (whole-struck d (half 1 t) (valid-last t v c) (omega arith) s.1)
 
-  struck-apart : (d : ℕ) (t : Shape) → Valid t → t.scale + d ≤ 6 → struckAt set d t ≡ true → Apart t
+  struck-apart : (d : ℕ) (t : Shape) → Valid t → t.scale + d ≤ 6 → struck_at set d t ≡ true → Apart t
   struck-apart zero t v k h = l.apart t v (sym (struck-whole set t) ∙ h)
   struck-apart (suc d) t v k h =
       let c : t.scale ≤ 5 = omega arith in
-      let s = and_parts (struckAt set d (half 0 t)) (struckAt set d (half 1 t)) (sym (struck-step set d t) ∙ h) in
+      let s = and_parts (struck_at set d (half 0 t)) (struck_at set d (half 1 t)) (sym (struck-step set d t) ∙ h) in
       halves-apart t (struck-apart d (half 0 t) (valid-first t v c) (omega arith) s.0) (struck-apart d (half 1 t) (valid-last t v c) (omega arith) s.1)
 
-  one_deeper : (d : ℕ) (t : Shape) → Valid t → t.scale + suc d ≤ 6 → struckAt set d t ≡ true → struckAt set (suc d) t ≡ true
+  one_deeper : (d : ℕ) (t : Shape) → Valid t → t.scale + suc d ≤ 6 → struck_at set d t ≡ true → struck_at set (suc d) t ≡ true
   one_deeper zero t v k h = whole-struck 1 t v k (sym (struck-whole set t) ∙ h)
   one_deeper (suc d) t v k h =
       let c : t.scale ≤ 5 = omega arith in
-      let s = and_parts (struckAt set d (half 0 t)) (struckAt set d (half 1 t)) (sym (struck-step set d t) ∙ h) in
-      struck-step set (suc d) t ∙ and_from (struckAt set (suc d) (half 0 t)) (struckAt set (suc d) (half 1 t))
+      let s = and_parts (struck_at set d (half 0 t)) (struck_at set d (half 1 t)) (sym (struck-step set d t) ∙ h) in
+      struck-step set (suc d) t ∙ and_from (struck_at set (suc d) (half 0 t)) (struck_at set (suc d) (half 1 t))
       (one_deeper d (half 0 t) (valid-first t v c) (omega arith) s.0) (one_deeper d (half 1 t) (valid-last t v c) (omega arith) s.1)
 
-  much-deeper : (n d : ℕ) (t : Shape) → Valid t → t.scale + (d + n) ≤ 6 → struckAt set d t ≡ true → struckAt set (d + n) t ≡ true
-  much-deeper zero d t v k h = subst (λ (e : ℕ). struckAt set e t ≡ true) none h
+  much-deeper : (n d : ℕ) (t : Shape) → Valid t → t.scale + (d + n) ≤ 6 → struck_at set d t ≡ true → struck_at set (d + n) t ≡ true
+  much-deeper zero d t v k h = subst (λ (e : ℕ). struck_at set e t ≡ true) none h
     where
       none : d ≡ d + 0
       none = omega arith
   much-deeper (suc n) d t v k h =
-      subst (λ (e : ℕ). struckAt set e t ≡ true) one_more (one_deeper (d + n) t v (omega arith) (much-deeper n d t v (omega arith) h))
+      subst (λ (e : ℕ). struck_at set e t ≡ true) one_more (one_deeper (d + n) t v (omega arith) (much-deeper n d t v (omega arith) h))
     where
       one_more : suc (d + n) ≡ d + suc n
       one_more = omega arith
 
-  pub struck : (d : ℕ) (t : Shape) → Valid t → t.scale + d ≤ 6 → struckAt set d t ≡ true → Struck set d t
+  pub struck : (d : ℕ) (t : Shape) → Valid t → t.scale + d ≤ 6 → struck_at set d t ≡ true → Struck set d t
   struck d t v k h =
       record {
         apart = struck-apart d t v k h;
-        deeper = λ e c r. subst (λ (n : ℕ). struckAt set n t ≡ true) (up_to d e c) (much-deeper (e - d) d t v (fits t.scale d e c r) h);
+        deeper = λ e c r. subst (λ (n : ℕ). struck_at set n t ≡ true) (up_to d e c) (much-deeper (e - d) d t v (fits t.scale d e c r) h);
       }
     where
       up_to : (d e : ℕ) → d ≤ e → d + (e - d) ≡ e

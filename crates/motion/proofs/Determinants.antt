@@ -14,8 +14,8 @@ pub record Triple : Type 0 where
   pub v : V3
   pub w : V3
 
-abbrev pub detOf : Triple → ℤ
-detOf t = det t.u t.v t.w
+abbrev pub det_of : Triple → ℤ
+det_of t = det t.u t.v t.w
 
 -- ---- the four control values of the cubic det (u(t)) (v(t)) (w(t)), times 3, between the start s and the end e
 unfoldable pub G0 : Triple → Triple → ℤ
@@ -68,5 +68,5 @@ seen p a b c = record { u = p -ᵛ a; v = b -ᵛ a; w = c -ᵛ a }
 abbrev pub at_start : Shape → Triple
 at_start t = seen t.p.start t.a.start t.b.start t.c.start
 
-abbrev pub atEnd : Shape → Triple
-atEnd t = seen t.p.end t.a.end t.b.end t.c.end
+abbrev pub at_end : Shape → Triple
+at_end t = seen t.p.end t.a.end t.b.end t.c.end

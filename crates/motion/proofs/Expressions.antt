@@ -42,8 +42,8 @@ pub record ETriple : Type 0 where
   pub v : E3
   pub w : E3
 
-abbrev pub detOfᵉ : ETriple → Exp
-detOfᵉ t = detᵉ t.u t.v t.w
+abbrev pub det_ofᵉ : ETriple → Exp
+det_ofᵉ t = detᵉ t.u t.v t.w
 
 abbrev pub G0ᵉ : ETriple → ETriple → Exp
 G0ᵉ s e = con (pos 3) ⊗ detᵉ s.u s.v s.w
@@ -92,8 +92,8 @@ abbrev pub points : V3 → V3 → V3 → V3 → List ℤ → List ℤ
 points p a b c ρ = put p (put a (put b (put c ρ)))
 
 -- the points of a test: variables 0 to 23, and more from 24 on
-abbrev pub ofShape : Shape → List ℤ → List ℤ
-ofShape t ρ = points t.p.start t.a.start t.b.start t.c.start (points t.p.end t.a.end t.b.end t.c.end ρ)
+abbrev pub of_shape : Shape → List ℤ → List ℤ
+of_shape t ρ = points t.p.start t.a.start t.b.start t.c.start (points t.p.end t.a.end t.b.end t.c.end ρ)
 
 abbrev pub S4 : EFour
 S4 = record { p = vars 0; a = vars 3; b = vars 6; c = vars 9 }

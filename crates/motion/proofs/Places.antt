@@ -7,8 +7,8 @@ use Rattle.motion.specs.declared.shapes.Shape.{Shape}
 use Rattle.motion.specs.Vectors.{◌+ᵛ◌, ◌-ᵛ◌, ◌·ᵛ◌}
 use Rattle.motion.specs.Laws.{Within, InReach, at}
 use Rattle.motion.proofs.Ring.{var, ring}
-use Rattle.motion.proofs.Expressions.{E3, EFour, ◌+ᵉ◌, ◌·ᵉ◌, relᵉ, alongᵉ, detOfᵉ, ofShape, S4, E4}
-use Rattle.motion.proofs.Determinants.{det, detOf, along, seen, at_start, atEnd}
+use Rattle.motion.proofs.Expressions.{E3, EFour, ◌+ᵉ◌, ◌·ᵉ◌, relᵉ, alongᵉ, det_ofᵉ, of_shape, S4, E4}
+use Rattle.motion.proofs.Determinants.{det, det_of, along, seen, at_start, at_end}
 use Rattle.motion.proofs.Sizes.{abs-add, abs-sub, abs-mul}
 
 unfoldable pub place : ℤ → ℤ → Moving → V3
@@ -55,6 +55,6 @@ abbrev placesᵉ : EFour
 placesᵉ = record { p = placeᵉ S4.p E4.p; a = placeᵉ S4.a E4.a; b = placeᵉ S4.b E4.b; c = placeᵉ S4.c E4.c }
 
 pub on-the-way : (r p : ℤ) (t : Shape)
-    → detOf (seen (place r p t.p) (place r p t.a) (place r p t.b) (place r p t.c)) ≡ detOf (along r p (at_start t) (atEnd t))
+    → det_of (seen (place r p t.p) (place r p t.a) (place r p t.b) (place r p t.c)) ≡ det_of (along r p (at_start t) (at_end t))
 unfolding det seen along place ◌+ᵛ◌ ◌-ᵛ◌ ◌·ᵛ◌
-on-the-way r p t = ring (ofShape t (r ∷ p ∷ [])) (detOfᵉ (relᵉ placesᵉ)) (detOfᵉ (alongᵉ (var 24) (var 25) (relᵉ S4) (relᵉ E4))) tt
+on-the-way r p t = ring (of_shape t (r ∷ p ∷ [])) (det_ofᵉ (relᵉ placesᵉ)) (det_ofᵉ (alongᵉ (var 24) (var 25) (relᵉ S4) (relᵉ E4))) tt

@@ -9,11 +9,11 @@ use Rattle.motion.specs.declared.shapes.Shape.{Shape}
 use Rattle.motion.specs.Vectors.{◌-ᵛ◌, ◌·ᵛ◌, dot, cross}
 use Rattle.motion.specs.Features.{firsts, seconds, first, second}
 use Rattle.motion.specs.Laws.{Valid, Far, Apart, Lawful, Weights, at, weighted, total, difference, half}
-use Rattle.motion.specs.Plane.{planeSet}
-use Rattle.motion.proofs.Determinants.{detOf, seen, at_start, atEnd, Above, Below, One-sign, sum}
+use Rattle.motion.specs.Plane.{plane_set}
+use Rattle.motion.proofs.Determinants.{det_of, seen, at_start, at_end, Above, Below, One-sign, sum}
 use Rattle.motion.proofs.Sizes.{abs-mul, abs_neg, far-by-normal}
 use Rattle.motion.proofs.Bernstein.{never-flat}
-use Rattle.motion.proofs.Weights.{faceDifference, edgeDifference, weighted-face, weighted-edge}
+use Rattle.motion.proofs.Weights.{face_difference, edge_difference, weighted-face, weighted-edge}
 use Rattle.motion.proofs.Places.{place, at_place, short, on-the-way}
 use Rattle.motion.proofs.Halving.{halves-keep}
 use Rattle.motion.proofs.Halves.{minus-start, minus-middle, minus-end}
@@ -27,32 +27,32 @@ scaled i j c d x h e = omega (arith, mul-le-mul_left (i * j) h)
 sized : (i j : ℕ) (d : ℤ) → nat_abs (pos i *ℤ pos j *ℤ d) ≡ i * j * nat_abs d
 sized i j d = abs-mul (pos (i * j)) d
 
-module _ (t : Shape) (r p : ℕ) (v : Valid t) (hq : 1 ≤ r + p) (sign : One-sign (at_start t) (atEnd t)) where
+module _ (t : Shape) (r p : ℕ) (v : Valid t) (hq : 1 ≤ r + p) (sign : One-sign (at_start t) (at_end t)) where
   abbrev here : Moving → V3
   here m = place (pos r) (pos p) m
 
   abbrev volume : ℤ
-  volume = detOf (seen (here t.p) (here t.a) (here t.b) (here t.c))
+  volume = det_of (seen (here t.p) (here t.a) (here t.b) (here t.c))
 
   large : (r + p) ^ 3 ≤ 3 * nat_abs volume
-  large = rw (on-the-way (pos r) (pos p) t) (never-flat (at_start t) (atEnd t) r p sign)
+  large = rw (on-the-way (pos r) (pos p) t) (never-flat (at_start t) (at_end t) r p sign)
 
   face-far : (i j k l : ℕ) → 1 ≤ i + 0 → 1 ≤ j + (k + (l + 0))
-      → Far t.scale ((i + 0) * (j + (k + (l + 0))) * (r + p)) (faceDifference (here t.p) (here t.a) (here t.b) (here t.c) i j k l)
+      → Far t.scale ((i + 0) * (j + (k + (l + 0))) * (r + p)) (face_difference (here t.p) (here t.a) (here t.b) (here t.c) i j k l)
   face-far i j k l hi hj =
       far-by-normal t.scale ((i + 0) * (j + (k + (l + 0)))) (r + p) (here t.b -ᵛ here t.a) (here t.c -ᵛ here t.a) _ v.0 (mul-pos hi hj) hq
       (short t.scale r p t.b t.a v.3 v.2) (short t.scale r p t.c t.a v.4 v.2)
       (scaled (i + 0) (j + (k + (l + 0))) ((r + p) ^ 3) volume
-      (dot (faceDifference (here t.p) (here t.a) (here t.b) (here t.c) i j k l) (cross (here t.b -ᵛ here t.a) (here t.c -ᵛ here t.a))) large
+      (dot (face_difference (here t.p) (here t.a) (here t.b) (here t.c) i j k l) (cross (here t.b -ᵛ here t.a) (here t.c -ᵛ here t.a))) large
       (ap nat_abs (weighted-face (here t.p) (here t.a) (here t.b) (here t.c) i j k l) ∙ sized (i + 0) (j + (k + (l + 0))) volume))
 
   edge-far : (i j k l : ℕ) → 1 ≤ i + (j + 0) → 1 ≤ k + (l + 0)
-      → Far t.scale ((i + (j + 0)) * (k + (l + 0)) * (r + p)) (edgeDifference (here t.p) (here t.a) (here t.b) (here t.c) i j k l)
+      → Far t.scale ((i + (j + 0)) * (k + (l + 0)) * (r + p)) (edge_difference (here t.p) (here t.a) (here t.b) (here t.c) i j k l)
   edge-far i j k l hi hk =
       far-by-normal t.scale ((i + (j + 0)) * (k + (l + 0))) (r + p) (here t.p -ᵛ here t.a) (here t.c -ᵛ here t.b) _ v.0 (mul-pos hi hk) hq
       (short t.scale r p t.p t.a v.1 v.2) (short t.scale r p t.c t.b v.4 v.3)
       (scaled (i + (j + 0)) (k + (l + 0)) ((r + p) ^ 3) volume
-      (dot (edgeDifference (here t.p) (here t.a) (here t.b) (here t.c) i j k l) (cross (here t.p -ᵛ here t.a) (here t.c -ᵛ here t.b))) large
+      (dot (edge_difference (here t.p) (here t.a) (here t.b) (here t.c) i j k l) (cross (here t.p -ᵛ here t.a) (here t.c -ᵛ here t.b))) large
       (ap nat_abs (weighted-edge (here t.p) (here t.a) (here t.b) (here t.c) i j k l) ∙ abs_neg (pos (i + (j + 0)) *ℤ pos (k + (l + 0)) *ℤ volume) ∙ sized (i + (j + 0)) (k + (l + 0)) volume))
 
   -- at places, any weights
@@ -91,7 +91,7 @@ module _ (t : Shape) (r p : ℕ) (v : Valid t) (hq : 1 ≤ r + p) (sign : One-si
 back : (p q : ℕ) → p ≤ q → q - p + p ≡ q
 back p q h = omega arith
 
-plane-apart : (t : Shape) → Valid t → planeSet t ≡ true → Apart t
+plane-apart : (t : Shape) → Valid t → plane_set t ≡ true → Apart t
 plane-apart t v h p q hq hp =
     subst (λ (q : ℕ). (ws us : List ℕ) → Weights ws (first t) → Weights us (second t) → Far t.scale (total ws * total us * q) (difference p q ws (first t) us (second t)))
     (back p q hp) (far-then t (q - p) p v (omega arith) (one-sign t h))
@@ -102,26 +102,26 @@ module _ (t : Shape) where
   unfolding sum seen
   first-start = λ i. record { u = minus-start t.p t.a i; v = minus-start t.b t.a i; w = minus-start t.c t.a i }
 
-  middle : sum (at_start t) (atEnd t) ≡ atEnd (half 0 t)
+  middle : sum (at_start t) (at_end t) ≡ at_end (half 0 t)
   unfolding sum seen
   middle = λ i. record { u = minus-middle t.p t.a i; v = minus-middle t.b t.a i; w = minus-middle t.c t.a i }
 
-  last_end : sum (atEnd t) (atEnd t) ≡ atEnd (half 1 t)
+  last_end : sum (at_end t) (at_end t) ≡ at_end (half 1 t)
   unfolding sum seen
   last_end = λ i. record { u = minus-end t.p t.a i; v = minus-end t.b t.a i; w = minus-end t.c t.a i }
 
-  above-halves : Above (at_start t) (atEnd t) → (planeSet (half 0 t) ≡ true) × (planeSet (half 1 t) ≡ true)
+  above-halves : Above (at_start t) (at_end t) → (plane_set (half 0 t) ≡ true) × (plane_set (half 1 t) ≡ true)
   above-halves h =
-      let k = (halves-keep (at_start t) (atEnd t)).0 h in
+      let k = (halves-keep (at_start t) (at_end t)).0 h in
       (struck-above (half 0 t) (transport (λ i. Above (first-start i) (middle i)) k.0), struck-above (half 1 t) (transport (λ i. Above (middle i) (last_end i)) k.1))
 
-  below-halves : Below (at_start t) (atEnd t) → (planeSet (half 0 t) ≡ true) × (planeSet (half 1 t) ≡ true)
+  below-halves : Below (at_start t) (at_end t) → (plane_set (half 0 t) ≡ true) × (plane_set (half 1 t) ≡ true)
   below-halves h =
-      let k = (halves-keep (at_start t) (atEnd t)).1 h in
+      let k = (halves-keep (at_start t) (at_end t)).1 h in
       (struck-below (half 0 t) (transport (λ i. Below (first-start i) (middle i)) k.0), struck-below (half 1 t) (transport (λ i. Below (middle i) (last_end i)) k.1))
 
-  plane-halves : planeSet t ≡ true → (planeSet (half 0 t) ≡ true) × (planeSet (half 1 t) ≡ true)
+  plane-halves : plane_set t ≡ true → (plane_set (half 0 t) ≡ true) × (plane_set (half 1 t) ≡ true)
   plane-halves h = ⊎_elim above-halves below-halves (one-sign t h)
 
-pub plane-lawful : Lawful planeSet
+pub plane-lawful : Lawful plane_set
 plane-lawful = record { apart = plane-apart; halves = λ t v k h. plane-halves t h }

@@ -4,8 +4,8 @@ use lib.Signed.{lt_z}
 use borrow.Author.Differences.{ints}
 use Rattle.std.proofs.lemmas.Bool.{and_parts, and_from, or_cases, or_left, or_right}
 use Rattle.motion.specs.declared.shapes.Shape.{Shape}
-use Rattle.motion.specs.Plane.{controls, allAbove, all_below, planeSet}
-use Rattle.motion.proofs.Determinants.{Above, Below, One-sign, at_start, atEnd}
+use Rattle.motion.specs.Plane.{controls, all_above, all_below, plane_set}
+use Rattle.motion.proofs.Determinants.{Above, Below, One-sign, at_start, at_end}
 use Rattle.motion.proofs.Letters.{g0-is, g1-is, g2-is, g3-is}
 
 four : (a b c d : Bool) → (a && b && c && d) ≡ true → (a ≡ true) × (b ≡ true) × (c ≡ true) × (d ≡ true)
@@ -31,29 +31,29 @@ tells-below : (x y : ℤ) → x ≡ y → y <ℤ pos 0 → lt_z x (pos 0) ≡ tr
 tells-below x y e h = grind (arith, ints)
 
 module _ (t : Shape) where
-  above : allAbove (controls t) ≡ true → Above (at_start t) (atEnd t)
+  above : all_above (controls t) ≡ true → Above (at_start t) (at_end t)
   above h =
       let f = four _ _ _ _ h in
       record { at0 = is-above _ _ (g0-is t) f.0; at1 = is-above _ _ (g1-is t) f.1; at2 = is-above _ _ (g2-is t) f.2; at3 = is-above _ _ (g3-is t) f.3 }
 
-  below : all_below (controls t) ≡ true → Below (at_start t) (atEnd t)
+  below : all_below (controls t) ≡ true → Below (at_start t) (at_end t)
   below h =
       let f = four _ _ _ _ h in
       record { at0 = is_below _ _ (g0-is t) f.0; at1 = is_below _ _ (g1-is t) f.1; at2 = is_below _ _ (g2-is t) f.2; at3 = is_below _ _ (g3-is t) f.3 }
 
-  pub one-sign : planeSet t ≡ true → One-sign (at_start t) (atEnd t)
-  one-sign h = go (or_cases (allAbove (controls t)) (all_below (controls t)) h)
+  pub one-sign : plane_set t ≡ true → One-sign (at_start t) (at_end t)
+  one-sign h = go (or_cases (all_above (controls t)) (all_below (controls t)) h)
     where
-      go : (allAbove (controls t) ≡ true) ⊎ (all_below (controls t) ≡ true) → One-sign (at_start t) (atEnd t)
+      go : (all_above (controls t) ≡ true) ⊎ (all_below (controls t) ≡ true) → One-sign (at_start t) (at_end t)
       go (inl p) = inl (above p)
       go (inr p) = inr (below p)
 
-  pub struck-above : Above (at_start t) (atEnd t) → planeSet t ≡ true
+  pub struck-above : Above (at_start t) (at_end t) → plane_set t ≡ true
   struck-above h =
-      or_left (allAbove (controls t)) (all_below (controls t))
+      or_left (all_above (controls t)) (all_below (controls t))
       (all _ _ _ _ (tells-above _ _ (g0-is t) h.at0) (tells-above _ _ (g1-is t) h.at1) (tells-above _ _ (g2-is t) h.at2) (tells-above _ _ (g3-is t) h.at3))
 
-  pub struck-below : Below (at_start t) (atEnd t) → planeSet t ≡ true
+  pub struck-below : Below (at_start t) (at_end t) → plane_set t ≡ true
   struck-below h =
-      or_right (allAbove (controls t)) (all_below (controls t))
+      or_right (all_above (controls t)) (all_below (controls t))
       (all _ _ _ _ (tells-below _ _ (g0-is t) h.at0) (tells-below _ _ (g1-is t) h.at1) (tells-below _ _ (g2-is t) h.at2) (tells-below _ _ (g3-is t) h.at3))

@@ -11,7 +11,7 @@ use Rattle.motion.specs.Vectors.{◌+ᵛ◌, ◌-ᵛ◌, dot}
 use Rattle.motion.specs.Features.{first, second}
 use Rattle.motion.specs.Laws.{Within, Apart, Lawful, portion, half, after}
 use Rattle.motion.specs.Lists.{each}
-use Rattle.motion.specs.Slab.{pairs, above, below, partedAlong, directions, slabSet}
+use Rattle.motion.specs.Slab.{pairs, above, below, parted_along, directions, slab_set}
 use Rattle.motion.proofs.Ring.{◌⊕◌, ring}
 use Rattle.motion.proofs.Expressions.{◌+ᵉ◌, dotᵉ, vars, put}
 use Rattle.motion.proofs.RowLaws.{row_lawful}
@@ -118,19 +118,19 @@ module _ (d : V3) (w : Within 1 d) where
         halves = λ t v k h. pairs-halves t (below d) (below-adds d) h;
       }
 
-  along-lawful : Lawful (λ t. partedAlong t d)
+  along-lawful : Lawful (λ t. parted_along t d)
   along-lawful = row_lawful above-lawful below-lawful
 
 -- ---- the directions
 all_short : All (Within 1) directions
 all_short = search arith
 
-pub slab-lawful : Lawful slabSet
+pub slab-lawful : Lawful slab_set
 slab-lawful =
     record {
-      apart = λ t v h. some_one (Within 1) (partedAlong t) (Apart t) (λ d w e. (along-lawful d w).apart t v e) directions all_short h;
+      apart = λ t v h. some_one (Within 1) (parted_along t) (Apart t) (λ d w e. (along-lawful d w).apart t v e) directions all_short h;
       halves = λ t v k h. (
-        some-map (Within 1) (partedAlong t) (partedAlong (half 0 t)) (λ d w e. ((along-lawful d w).halves t v k e).0) directions all_short h,
-        some-map (Within 1) (partedAlong t) (partedAlong (half 1 t)) (λ d w e. ((along-lawful d w).halves t v k e).1) directions all_short h,
+        some-map (Within 1) (parted_along t) (parted_along (half 0 t)) (λ d w e. ((along-lawful d w).halves t v k e).0) directions all_short h,
+        some-map (Within 1) (parted_along t) (parted_along (half 1 t)) (λ d w e. ((along-lawful d w).halves t v k e).1) directions all_short h,
       );
     }

@@ -3,8 +3,8 @@ use Rattle.std.proofs.Common.{◌≡◌, ℕ, ◌+◌, [], ◌∷◌, ℤ, pos, 
 use Rattle.motion.specs.declared.shapes.V3.{V3}
 use Rattle.motion.specs.Vectors.{◌+ᵛ◌, ◌-ᵛ◌, ◌·ᵛ◌, dot, cross, origin}
 use Rattle.motion.proofs.Ring.{Exp, var, con, ◌⊕◌, ◌⊗◌, opp, ring}
-use Rattle.motion.proofs.Expressions.{◌+ᵉ◌, ◌-ᵉ◌, ◌·ᵉ◌, dotᵉ, crossᵉ, detOfᵉ, relᵉ, points, originᵉ, S4}
-use Rattle.motion.proofs.Determinants.{det, detOf, seen}
+use Rattle.motion.proofs.Expressions.{◌+ᵉ◌, ◌-ᵉ◌, ◌·ᵉ◌, dotᵉ, crossᵉ, det_ofᵉ, relᵉ, points, originᵉ, S4}
+use Rattle.motion.proofs.Determinants.{det, det_of, seen}
 
 -- the weights' variables follow the points'
 abbrev w0 : Exp
@@ -24,27 +24,27 @@ o = con (pos 0)
 
 module _ (p a b c : V3) where
   -- the point p against the face a, b, c
-  abbrev pub faceDifference : ℕ → ℕ → ℕ → ℕ → V3
-  faceDifference i j k l =
+  abbrev pub face_difference : ℕ → ℕ → ℕ → ℕ → V3
+  face_difference i j k l =
       pos (j + (k + (l + 0))) ·ᵛ (pos i ·ᵛ p +ᵛ origin) -ᵛ pos (i + 0) ·ᵛ (pos j ·ᵛ a +ᵛ (pos k ·ᵛ b +ᵛ (pos l ·ᵛ c +ᵛ origin)))
 
   pub weighted-face : (i j k l : ℕ)
-      → dot (faceDifference i j k l) (cross (b -ᵛ a) (c -ᵛ a)) ≡ pos (i + 0) *ℤ pos (j + (k + (l + 0))) *ℤ detOf (seen p a b c)
+      → dot (face_difference i j k l) (cross (b -ᵛ a) (c -ᵛ a)) ≡ pos (i + 0) *ℤ pos (j + (k + (l + 0))) *ℤ det_of (seen p a b c)
   unfolding ◌+ᵛ◌ ◌-ᵛ◌ ◌·ᵛ◌ dot cross det seen
   weighted-face i j k l =
       ring (points p a b c (pos i ∷ pos j ∷ pos k ∷ pos l ∷ []))
       (dotᵉ ((w1 ⊕ (w2 ⊕ (w3 ⊕ o))) ·ᵉ (w0 ·ᵉ S4.p +ᵉ originᵉ) -ᵉ (w0 ⊕ o) ·ᵉ (w1 ·ᵉ S4.a +ᵉ (w2 ·ᵉ S4.b +ᵉ (w3 ·ᵉ S4.c +ᵉ originᵉ)))) (crossᵉ (S4.b -ᵉ S4.a) (S4.c -ᵉ S4.a)))
-      ((w0 ⊕ o) ⊗ (w1 ⊕ (w2 ⊕ (w3 ⊕ o))) ⊗ detOfᵉ (relᵉ S4)) tt
+      ((w0 ⊕ o) ⊗ (w1 ⊕ (w2 ⊕ (w3 ⊕ o))) ⊗ det_ofᵉ (relᵉ S4)) tt
 
   -- the edge b, c against the edge a, p: the sign turns
-  abbrev pub edgeDifference : ℕ → ℕ → ℕ → ℕ → V3
-  edgeDifference i j k l =
+  abbrev pub edge_difference : ℕ → ℕ → ℕ → ℕ → V3
+  edge_difference i j k l =
       pos (k + (l + 0)) ·ᵛ (pos i ·ᵛ b +ᵛ (pos j ·ᵛ c +ᵛ origin)) -ᵛ pos (i + (j + 0)) ·ᵛ (pos k ·ᵛ a +ᵛ (pos l ·ᵛ p +ᵛ origin))
 
   pub weighted-edge : (i j k l : ℕ)
-      → dot (edgeDifference i j k l) (cross (p -ᵛ a) (c -ᵛ b)) ≡ neg_ℤ (pos (i + (j + 0)) *ℤ pos (k + (l + 0)) *ℤ detOf (seen p a b c))
+      → dot (edge_difference i j k l) (cross (p -ᵛ a) (c -ᵛ b)) ≡ neg_ℤ (pos (i + (j + 0)) *ℤ pos (k + (l + 0)) *ℤ det_of (seen p a b c))
   unfolding ◌+ᵛ◌ ◌-ᵛ◌ ◌·ᵛ◌ dot cross det seen
   weighted-edge i j k l =
       ring (points p a b c (pos i ∷ pos j ∷ pos k ∷ pos l ∷ []))
       (dotᵉ ((w2 ⊕ (w3 ⊕ o)) ·ᵉ (w0 ·ᵉ S4.b +ᵉ (w1 ·ᵉ S4.c +ᵉ originᵉ)) -ᵉ (w0 ⊕ (w1 ⊕ o)) ·ᵉ (w2 ·ᵉ S4.a +ᵉ (w3 ·ᵉ S4.p +ᵉ originᵉ))) (crossᵉ (S4.p -ᵉ S4.a) (S4.c -ᵉ S4.b)))
-      (opp ((w0 ⊕ (w1 ⊕ o)) ⊗ (w2 ⊕ (w3 ⊕ o)) ⊗ detOfᵉ (relᵉ S4))) tt
+      (opp ((w0 ⊕ (w1 ⊕ o)) ⊗ (w2 ⊕ (w3 ⊕ o)) ⊗ det_ofᵉ (relᵉ S4))) tt

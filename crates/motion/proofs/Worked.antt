@@ -4,7 +4,7 @@ use Rattle.motion.specs.Vectors.{◌+ᵛ◌, ◌-ᵛ◌, ◌·ᵛ◌, dot, cross
 use Rattle.motion.specs.Features.{first, second}
 use Rattle.motion.specs.Laws.{Apart, Far, on-x, on-y, on-z, at, after, difference}
 use Rattle.motion.specs.Plane.{controls}
-use Rattle.motion.specs.Depths.{struckAt}
+use Rattle.motion.specs.Depths.{struck_at}
 use Rattle.motion.specs.Cases.{crossing, Cases}
 
 -- at 1/2 the point is the mean of the corners with the weights 2, 1, 1
@@ -18,7 +18,7 @@ never-apart : Apart crossing → ⊥
 never-apart f = at-half (f 1 2 (omega arith) (omega arith) (1 ∷ []) (2 ∷ 1 ∷ 1 ∷ []) (refl, omega arith) (refl, omega arith))
 
 pub cases : Cases
-unfolding ◌+ᵛ◌ ◌-ᵛ◌ ◌·ᵛ◌ dot cross at after controls struckAt
+unfolding ◌+ᵛ◌ ◌-ᵛ◌ ◌·ᵛ◌ dot cross at after controls struck_at
 cases =
     record {
       values-1 = refl;

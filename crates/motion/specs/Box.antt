@@ -25,8 +25,8 @@ coordinates axis (m ∷ ms) = axis m.start ∷ axis m.end ∷ coordinates axis m
 abbrev pub under : (V3 → ℤ) → List Moving → List Moving → Bool
 under axis ms ns = int_lt (greatest (coordinates axis ms)) (least (coordinates axis ns))
 
-abbrev pub partedOn : (V3 → ℤ) → Shape → Bool
-partedOn axis t = under axis (first t) (second t) || under axis (second t) (first t)
+abbrev pub parted_on : (V3 → ℤ) → Shape → Bool
+parted_on axis t = under axis (first t) (second t) || under axis (second t) (first t)
 
-abbrev pub boxSet : Shape → Bool
-boxSet t = partedOn (λ v. v.x) t || partedOn (λ v. v.y) t || partedOn (λ v. v.z) t
+abbrev pub box_set : Shape → Bool
+box_set t = parted_on (λ v. v.x) t || parted_on (λ v. v.y) t || parted_on (λ v. v.z) t

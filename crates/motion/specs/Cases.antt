@@ -7,11 +7,11 @@ use Rattle.motion.specs.declared.shapes.Shape.{Shape}
 use Rattle.motion.specs.declared.shapes.Controls.{Controls}
 use Rattle.motion.specs.Vectors.{vector, origin}
 use Rattle.motion.specs.Laws.{Apart, half}
-use Rattle.motion.specs.Box.{boxSet}
-use Rattle.motion.specs.Slab.{slabSet}
-use Rattle.motion.specs.Plane.{controls, planeSet}
+use Rattle.motion.specs.Box.{box_set}
+use Rattle.motion.specs.Slab.{slab_set}
+use Rattle.motion.specs.Plane.{controls, plane_set}
 use Rattle.motion.specs.Rows.{delivered}
-use Rattle.motion.specs.Depths.{struckAt, Window}
+use Rattle.motion.specs.Depths.{struck_at, Window}
 
 infix 5 ◌to◌
 abbrev ◌to◌ : V3 → V3 → Moving
@@ -34,24 +34,24 @@ abbrev minus : ℕ → ℤ
 minus n = neg_ℤ (pos n)
 
 -- against the resting face (0,0,0), (4,0,0), (0,4,0)
-abbrev overT : Moving → Shape
-overT p = vf p (resting origin) (resting (vector (pos 4) (pos 0) (pos 0))) (resting (vector (pos 0) (pos 4) (pos 0)))
+abbrev over_t : Moving → Shape
+over_t p = vf p (resting origin) (resting (vector (pos 4) (pos 0) (pos 0))) (resting (vector (pos 0) (pos 4) (pos 0)))
 
 -- the point (1,1,1), which goes to (1,1,z)
 abbrev above : ℤ → Moving
 above z = vector (pos 1) (pos 1) (pos 1) to vector (pos 1) (pos 1) z
 
 abbrev pub leaving : Shape
-leaving = overT (above (pos 3))
+leaving = over_t (above (pos 3))
 
 abbrev pub crossing : Shape
-crossing = overT (above (minus 1))
+crossing = over_t (above (minus 1))
 
 abbrev pub landing : Shape
-landing = overT (above (pos 0))
+landing = over_t (above (pos 0))
 
 abbrev pub beside : Shape
-beside = overT (resting (vector (pos 9) (pos 9) (pos 0)))
+beside = over_t (resting (vector (pos 9) (pos 9) (pos 0)))
 
 -- the face rises by ten, and the point with it
 abbrev pub rising : Shape
@@ -72,7 +72,7 @@ sinking =
 
 -- what Box, Slab and Plane answer
 abbrev Answers : Shape → Bool → Bool → Bool → Type 0
-Answers t b s p = (boxSet t ≡ b) × (slabSet t ≡ s) × (planeSet t ≡ p)
+Answers t b s p = (box_set t ≡ b) × (slab_set t ≡ s) × (plane_set t ≡ p)
 
 pub record Cases : Type 0 where
   pub values-1 : controls leaving ≡ values (pos 48) (pos 80) (pos 112) (pos 144)
@@ -94,6 +94,6 @@ pub record Cases : Type 0 where
   pub answers-6 : Answers turning false false false
   pub first-half : controls (half 0 turning) ≡ values (pos 48) (pos 24) (pos 12) (pos 12)
   pub last-half : controls (half 1 turning) ≡ values (pos 12) (pos 12) (pos 24) (pos 48)
-  pub deeper : struckAt delivered 1 turning ≡ true
+  pub deeper : struck_at delivered 1 turning ≡ true
   pub values-7 : controls sinking ≡ values (minus 48) (minus 16) (pos 16) (pos 48)
   pub answers-7 : Answers sinking false false false

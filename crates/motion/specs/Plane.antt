@@ -48,14 +48,14 @@ unfoldable pub controls : Shape → Controls
 controls t = combined (d0 t) (d1 t) (n0 t) (n1 t) (2n̂ t)
 
 -- a zero agrees with nothing
-abbrev pub allAbove : Controls → Bool
-allAbove g = int_lt (pos 0) g.g0 && int_lt (pos 0) g.g1 && int_lt (pos 0) g.g2 && int_lt (pos 0) g.g3
+abbrev pub all_above : Controls → Bool
+all_above g = int_lt (pos 0) g.g0 && int_lt (pos 0) g.g1 && int_lt (pos 0) g.g2 && int_lt (pos 0) g.g3
 
 abbrev pub all_below : Controls → Bool
 all_below g = int_lt g.g0 (pos 0) && int_lt g.g1 (pos 0) && int_lt g.g2 (pos 0) && int_lt g.g3 (pos 0)
 
-abbrev pub oneSign : Controls → Bool
-oneSign g = allAbove g || all_below g
+abbrev pub one_sign : Controls → Bool
+one_sign g = all_above g || all_below g
 
-abbrev pub planeSet : Shape → Bool
-planeSet t = oneSign (controls t)
+abbrev pub plane_set : Shape → Bool
+plane_set t = one_sign (controls t)

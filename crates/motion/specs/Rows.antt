@@ -1,9 +1,9 @@
 -- Filters in a row.
 use Rattle.std.specs.Prelude.{Bool, ◌||◌}
 use Rattle.motion.specs.declared.shapes.Shape.{Shape}
-use Rattle.motion.specs.Box.{boxSet}
-use Rattle.motion.specs.Slab.{slabSet}
-use Rattle.motion.specs.Plane.{planeSet}
+use Rattle.motion.specs.Box.{box_set}
+use Rattle.motion.specs.Slab.{slab_set}
+use Rattle.motion.specs.Plane.{plane_set}
 
 -- a row of two strikes exactly when one of them does
 abbrev pub row : (Shape → Bool) → (Shape → Bool) → Shape → Bool
@@ -11,4 +11,4 @@ row f g t = f t || g t
 
 -- the delivered filter: Box, then Slab, then Plane
 abbrev pub delivered : Shape → Bool
-delivered = row (row boxSet slabSet) planeSet
+delivered = row (row box_set slab_set) plane_set

@@ -17,8 +17,8 @@ abbrev pub below : V3 → V3 → Bool
 below d v = int_lt (dot d v) (pos 0)
 
 -- the direction's product is above zero for all pairs, or below zero for all
-abbrev pub partedAlong : Shape → V3 → Bool
-partedAlong t d = pairs (above d) t || pairs (below d) t
+abbrev pub parted_along : Shape → V3 → Bool
+parted_along t d = pairs (above d) t || pairs (below d) t
 
 abbrev pub one : ℤ
 one = pos 1
@@ -35,8 +35,8 @@ directions =
     ∷ vector one one none ∷ vector one back none ∷ vector one none one ∷ vector one none back ∷ vector none one one ∷ vector none one back
     ∷ vector one one one ∷ vector one one back ∷ vector one back one ∷ vector one back back ∷ []
 
-abbrev pub slabSet : Shape → Bool
-slabSet t = some (partedAlong t) directions
+abbrev pub slab_set : Shape → Bool
+slab_set t = some (parted_along t) directions
 
 -- ---- which directions these are
 -- −1, 0 or 1

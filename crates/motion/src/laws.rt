@@ -1,17 +1,17 @@
 // The mathematics, as the contract of a function.
 ghost use Rattle.std.specs.Prelude.{◌≡◌};
 ghost use Rattle.motion.specs.Laws.{Lawful};
-ghost use Rattle.motion.specs.Box.{boxSet};
-ghost use Rattle.motion.specs.Slab.{slabSet, Exactly};
-ghost use Rattle.motion.specs.Plane.{planeSet};
+ghost use Rattle.motion.specs.Box.{box_set};
+ghost use Rattle.motion.specs.Slab.{slab_set, Exactly};
+ghost use Rattle.motion.specs.Plane.{plane_set};
 ghost use Rattle.motion.specs.Cases.{Cases};
 
 /// How many filters are delivered: the sets of the three keep both laws, and Slab's directions are the ones that its rule describes.
 pub fn laws_hold() -> u8
     ensures count { result ≡ 3 }
-    ensures boxes { Lawful boxSet }
-    ensures slabs { Lawful slabSet }
-    ensures planes { Lawful planeSet }
+    ensures boxes { Lawful box_set }
+    ensures slabs { Lawful slab_set }
+    ensures planes { Lawful plane_set }
     ensures directions { Exactly }
 {
     3

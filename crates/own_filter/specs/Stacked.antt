@@ -13,5 +13,5 @@ down v = int_lt v.z (pos 0)
 abbrev pub lower : Moving → Moving → Bool
 lower m n = down (m.start -ᵛ n.start) && down (m.end -ᵛ n.end)
 
-abbrev pub stackedSet : Shape → Bool
-stackedSet t = pairs down t
+abbrev pub stacked_set : Shape → Bool
+stacked_set t = pairs down t

@@ -1,7 +1,7 @@
 // A filter for film in a stack: one feature stays below the other.
 ghost use Rattle.std.specs.Prelude.{◌≡◌};
 ghost use Rattle.motion.specs.Vectors.{◌-ᵛ◌};
-ghost use Rattle.own_filter.specs.Stacked.{down, lower, stackedSet};
+ghost use Rattle.own_filter.specs.Stacked.{down, lower, stacked_set};
 ghost use Rattle.own_filter.specs.StackedLaws.{stacked-lawful};
 
 use filters::{Filter, Test};
@@ -12,7 +12,7 @@ use motion::{Kind, Moving, Shape, V3};
 pub struct Stacked;
 
 impl Filter for Stacked {
-    ghost struck = { λ f. stackedSet };
+    ghost struck = { λ f. stacked_set };
 
     ghost lawful = { λ f. stacked-lawful };
 
@@ -22,7 +22,7 @@ impl Filter for Stacked {
 }
 
 fn is_stacked(t: Shape) -> bool
-    ensures { result ≡ stackedSet t }
+    ensures { result ≡ stacked_set t }
 {
     match t.kind {
         Kind::Vf => is_lower(t.p, t.a) && is_lower(t.p, t.b) && is_lower(t.p, t.c),

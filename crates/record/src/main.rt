@@ -1,7 +1,7 @@
 // record START.obj END.obj STEP.bin: makes the record of the step between two frames of one sheet.
 ghost use Rattle.std.specs.Prelude.{◌≡◌, not, take, is_some, is_ok, IfOk};
-ghost use Rattle.step.specs.Frames.{differenceOf};
-ghost use Rattle.step.specs.Record.{recordOf};
+ghost use Rattle.step.specs.Frames.{difference_of};
+ghost use Rattle.step.specs.Record.{record_of};
 ghost use Rattle.record.specs.Texts.{FromText};
 
 use anyhow::anyhow;
@@ -60,7 +60,7 @@ fn read_frame(rt: &HostRuntime, path: Path<'_>) -> anyhow::Result<Frame>
 
 /// Refuses two frames that are not of one sheet.
 fn same_sheet(rt: &HostRuntime, start: &Frame, end: &Frame) -> anyhow::Result<()>
-    ensures { is_ok result ≡ not (is_some (differenceOf start.now.draft start.now.faces.items end.now.draft end.now.faces.items)) }
+    ensures { is_ok result ≡ not (is_some (difference_of start.now.draft start.now.faces.items end.now.draft end.now.faces.items)) }
 {
     let differ = compare_frames(
         &start.draft,
@@ -102,7 +102,7 @@ fn record(rt: &HostRuntime, start: Frame, end: &Frame, path: Path<'_>) -> anyhow
 
 /// The record of the draft's points.
 fn written(rt: &HostRuntime, draft: &Draft, points: &[Point]) -> anyhow::Result<Vec<u8>>
-    ensures { IfOk result (λ bytes. bytes.items ≡ recordOf (take draft.now.points points.now)) }
+    ensures { IfOk result (λ bytes. bytes.items ≡ record_of (take draft.now.points points.now)) }
 {
     let mut bytes = vec![in rt.alloc(); 0u8; record_limit()]?;
     match write(draft, points, bytes.as_mut_slice()) {

@@ -1,8 +1,8 @@
 -- The bytes that a text is divided by.
 use Rattle.std.specs.Prelude.{ℕ}
 
-abbrev pub lineFeed : ℕ
-lineFeed = 10
+abbrev pub line_feed : ℕ
+line_feed = 10
 
 abbrev pub space : ℕ
 space = 32
@@ -13,8 +13,8 @@ hash = 35
 abbrev pub minus : ℕ
 minus = 45
 
-abbrev pub letterF : ℕ
-letterF = 102
+abbrev pub letter_f : ℕ
+letter_f = 102
 
-abbrev pub letterV : ℕ
-letterV = 118
+abbrev pub letter_v : ℕ
+letter_v = 118

@@ -8,9 +8,9 @@ pub record Check : Type 0 where
   pub tells : Notice
 
 -- what the first check that fits tells
-abbrev pub firstFit : List Check → Option Notice
-firstFit [] = None
-firstFit (c ∷ cs) = cond c.fits (Some c.tells) (firstFit cs)
+abbrev pub first_fit : List Check → Option Notice
+first_fit [] = None
+first_fit (c ∷ cs) = cond c.fits (Some c.tells) (first_fit cs)
 
 abbrev pub unless : {X : Type 0} → Option Notice → X → Result X Notice
 unless None x = Ok x
@@ -18,7 +18,7 @@ unless (Some n) x = Err n
 
 -- x, where no check fits; else the first that does
 abbrev pub answer : {X : Type 0} → List Check → X → Result X Notice
-answer cs x = unless (firstFit cs) x
+answer cs x = unless (first_fit cs) x
 
 -- a result with its fault told by number, layer and places
 abbrev pub told : {X E : Type 0} → (E → Notice) → Result X E → Result X Notice

@@ -11,20 +11,20 @@ use Rattle.sheet.specs.declared.notices.Layer.{Layer}
 use Rattle.sheet.specs.declared.notices.Layer.TheVariants as layer
 use Rattle.sheet.specs.declared.notices.Notice.{Notice}
 
-abbrev pub noticeAt : ℕ → Layer → Spot → Notice
-noticeAt n l s = record { number = n; layer = l; first = s.line; second = s.field }
+abbrev pub notice_at : ℕ → Layer → Spot → Notice
+notice_at n l s = record { number = n; layer = l; first = s.line; second = s.field }
 
-abbrev pub noticeOfField : FieldFault → Notice
-noticeOfField (NotANumber s) = noticeAt 1 layer.Field s
+abbrev pub notice_of_field : FieldFault → Notice
+notice_of_field (NotANumber s) = notice_at 1 layer.Field s
 
-abbrev pub noticeOfLine : LineFault → Notice
-noticeOfLine (Field e) = noticeOfField e
-noticeOfLine (NoSuchStart s) = noticeAt 2 layer.Line s
-noticeOfLine (CoordinateOutside s) = noticeAt 3 layer.Line s
-noticeOfLine (NoSuchPoint s) = noticeAt 4 layer.Line s
-noticeOfLine (NamedBefore s) = noticeAt 5 layer.Line s
+abbrev pub notice_of_line : LineFault → Notice
+notice_of_line (Field e) = notice_of_field e
+notice_of_line (NoSuchStart s) = notice_at 2 layer.Line s
+notice_of_line (CoordinateOutside s) = notice_at 3 layer.Line s
+notice_of_line (NoSuchPoint s) = notice_at 4 layer.Line s
+notice_of_line (NamedBefore s) = notice_at 5 layer.Line s
 
-abbrev pub noticeOfSheet : SheetFault → Notice
-noticeOfSheet (Line e) = noticeOfLine e
-noticeOfSheet TextTooLong = noticeAt 6 layer.Sheet (record { line = 0; field = 0 })
-noticeOfSheet (NoPlace s) = noticeAt 7 layer.Sheet s
+abbrev pub notice_of_sheet : SheetFault → Notice
+notice_of_sheet (Line e) = notice_of_line e
+notice_of_sheet TextTooLong = notice_at 6 layer.Sheet (record { line = 0; field = 0 })
+notice_of_sheet (NoPlace s) = notice_at 7 layer.Sheet s

@@ -1,6 +1,6 @@
 -- The lines of a text and the fields of a line.
 use Rattle.std.specs.Prelude.{ℕ, Bool, false, cond, List, [], ◌∷◌, ◌==◌}
-use Rattle.sheet.specs.Bytes.{lineFeed, space, hash, letterF, letterV}
+use Rattle.sheet.specs.Bytes.{line_feed, space, hash, letter_f, letter_v}
 use Rattle.sheet.specs.Cuts.{before, after}
 
 -- x in front of the first line
@@ -11,7 +11,7 @@ onto x (l ∷ ls) = (x ∷ l) ∷ ls
 -- each line ends with a line feed, which the last may lack
 abbrev pub lines_of : List ℕ → List (List ℕ)
 lines_of [] = []
-lines_of (x ∷ xs) = cond (x == lineFeed) ([] ∷ lines_of xs) (onto x (lines_of xs))
+lines_of (x ∷ xs) = cond (x == line_feed) ([] ∷ lines_of xs) (onto x (lines_of xs))
 
 pub record Fields : Type 0 where
   pub first : List ℕ
@@ -27,16 +27,16 @@ pub data Content : Type 0 where
   skipped : Content
   point : Fields → Content
   face : Fields → Content
-  noStart : Content
+  no_start : Content
 
-abbrev pub startsWithSpace : List ℕ → Bool
-startsWithSpace [] = false
-startsWithSpace (b ∷ bs) = b == space
+abbrev pub starts_with_space : List ℕ → Bool
+starts_with_space [] = false
+starts_with_space (b ∷ bs) = b == space
 
-abbrev pub afterSpace : (Fields → Content) → List ℕ → Content
-afterSpace kind [] = noStart
-afterSpace kind (b ∷ bs) = cond (b == space) (kind (fields_of bs)) noStart
+abbrev pub after_space : (Fields → Content) → List ℕ → Content
+after_space kind [] = no_start
+after_space kind (b ∷ bs) = cond (b == space) (kind (fields_of bs)) no_start
 
-abbrev pub contentOf : List ℕ → Content
-contentOf [] = skipped
-contentOf (b ∷ bs) = cond (b == hash) skipped (cond (b == letterV) (afterSpace point bs) (cond (b == letterF) (afterSpace face bs) noStart))
+abbrev pub content_of : List ℕ → Content
+content_of [] = skipped
+content_of (b ∷ bs) = cond (b == hash) skipped (cond (b == letter_v) (after_space point bs) (cond (b == letter_f) (after_space face bs) no_start))

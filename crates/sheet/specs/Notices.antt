@@ -15,6 +15,6 @@ name_of Offer = codes "offer"
 name_of Window = codes "window"
 
 -- the word fault, the number, the layer and the two places, one space between two of them
-abbrev pub faultLine : Notice → List ℕ
-faultLine n =
+abbrev pub fault_line : Notice → List ℕ
+fault_line n =
     codes "fault " ++ (decimal n.number ++ (codes " " ++ (name_of n.layer ++ (codes " " ++ (decimal n.first ++ (codes " " ++ decimal n.second))))))

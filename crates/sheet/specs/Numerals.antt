@@ -3,33 +3,33 @@ use Rattle.std.specs.Prelude.{ℕ, ◌+◌, ◌-◌, ◌*◌, Bool, true, false,
 use Rattle.std.specs.Char.{is_ascii_digit}
 use Rattle.sheet.specs.Bytes.{minus}
 
-abbrev pub allDigits : List ℕ → Bool
-allDigits [] = true
-allDigits (d ∷ ds) = is_ascii_digit d && allDigits ds
+abbrev pub all_digits : List ℕ → Bool
+all_digits [] = true
+all_digits (d ∷ ds) = is_ascii_digit d && all_digits ds
 
 -- the number that digits write after those of n
-abbrev pub digitsAfter : ℕ → List ℕ → ℕ
-digitsAfter n [] = n
-digitsAfter n (d ∷ ds) = digitsAfter (n * 10 + (d - 48)) ds
+abbrev pub digits_after : ℕ → List ℕ → ℕ
+digits_after n [] = n
+digits_after n (d ∷ ds) = digits_after (n * 10 + (d - 48)) ds
 
-abbrev pub oneToFive : List ℕ → Bool
-oneToFive ds = nat_le 1 (length ds) && nat_le (length ds) 5
+abbrev pub one_to_five : List ℕ → Bool
+one_to_five ds = nat_le 1 (length ds) && nat_le (length ds) 5
 
-abbrev pub isMagnitude : List ℕ → Bool
-isMagnitude ds = oneToFive ds && allDigits ds
+abbrev pub is_magnitude : List ℕ → Bool
+is_magnitude ds = one_to_five ds && all_digits ds
 
-abbrev pub isNegative : List ℕ → Bool
-isNegative [] = false
-isNegative (b ∷ bs) = b == minus
+abbrev pub is_negative : List ℕ → Bool
+is_negative [] = false
+is_negative (b ∷ bs) = b == minus
 
 -- the digits of a field: what follows the minus, or all
-abbrev pub digitsOf : List ℕ → List ℕ
-digitsOf [] = []
-digitsOf (b ∷ bs) = cond (b == minus) bs (b ∷ bs)
+abbrev pub digits_of : List ℕ → List ℕ
+digits_of [] = []
+digits_of (b ∷ bs) = cond (b == minus) bs (b ∷ bs)
 
 abbrev pub with_sign : Bool → ℕ → ℤ
 with_sign negative n = cond negative (neg_ℤ (pos n)) (pos n)
 
 -- the number of a field that is a numeral
 abbrev pub value_of : List ℕ → ℤ
-value_of field = with_sign (isNegative field) (digitsAfter 0 (digitsOf field))
+value_of field = with_sign (is_negative field) (digits_after 0 (digits_of field))

@@ -1,7 +1,7 @@
 -- The two passes of the reader, which keep count of what stands above a line.
 use Rattle.std.specs.Prelude.{ℕ, ◌+◌, List, [], ◌∷◌, ◌++◌, length, slice_set}
 use Rattle.sheet.specs.Checks.{Check}
-use Rattle.sheet.specs.Sheet.{entry_of, pointsIn, facesIn, lineChecks}
+use Rattle.sheet.specs.Sheet.{entry_of, points_in, faces_in, line_checks}
 use Rattle.sheet.specs.declared.counts.Counts.{Counts}
 use Rattle.sheet.specs.declared.lines.Entry.{Entry}
 use Rattle.sheet.specs.declared.lines.Entry.TheVariants as entry
@@ -23,21 +23,21 @@ counting above (entry.Face f) = record { points = above.points; faces = above.fa
 
 -- what stands above some lines, and what they say
 abbrev pub total : Counts → List (List ℕ) → Counts
-total above ls = record { points = above.points + length (pointsIn ls); faces = above.faces + length (facesIn ls) }
+total above ls = record { points = above.points + length (points_in ls); faces = above.faces + length (faces_in ls) }
 
 -- the checks of lines from number n on
-abbrev pub passChecks : Counts → ℕ → Counts → List (List ℕ) → List Check
-passChecks room n above [] = []
-passChecks room n above (l ∷ ls) = lineChecks room n above l ++ passChecks room (n + 1) (counting above (entry_of l)) ls
+abbrev pub pass_checks : Counts → ℕ → Counts → List (List ℕ) → List Check
+pass_checks room n above [] = []
+pass_checks room n above (l ∷ ls) = line_checks room n above l ++ pass_checks room (n + 1) (counting above (entry_of l)) ls
 
 -- a table with the row of a line written after those above the line
 
-abbrev pub withPoint : Counts → Entry → List Point → List Point
-withPoint above entry.Nothing ps = ps
-withPoint above (entry.Point p) ps = slice_set ps above.points p
-withPoint above (entry.Face f) ps = ps
+abbrev pub with_point : Counts → Entry → List Point → List Point
+with_point above entry.Nothing ps = ps
+with_point above (entry.Point p) ps = slice_set ps above.points p
+with_point above (entry.Face f) ps = ps
 
-abbrev pub withFace : Counts → Entry → List Face → List Face
-withFace above entry.Nothing fs = fs
-withFace above (entry.Point p) fs = fs
-withFace above (entry.Face f) fs = slice_set fs above.faces f
+abbrev pub with_face : Counts → Entry → List Face → List Face
+with_face above entry.Nothing fs = fs
+with_face above (entry.Point p) fs = fs
+with_face above (entry.Face f) fs = slice_set fs above.faces f

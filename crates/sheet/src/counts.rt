@@ -1,7 +1,7 @@
 // How many points and faces: those above a line, or those that there is room for.
 ghost use Rattle.std.specs.Prelude.{◌≡◌, true};
 ghost use Rattle.sheet.specs.Passes.{counting, widest};
-ghost use Rattle.sheet.specs.Sheet.{hasPlace};
+ghost use Rattle.sheet.specs.Sheet.{has_place};
 
 use crate::lines::Entry;
 
@@ -19,7 +19,7 @@ impl Counts {
 
     /// Whether this is room for the row of `entry` after those of `above`.
     pub(crate) fn has_place(self, entry: Entry, above: Counts) -> bool
-        ensures { result ≡ hasPlace self above entry }
+        ensures { result ≡ has_place self above entry }
     {
         match entry {
             Entry::Nothing => true,
@@ -30,7 +30,7 @@ impl Counts {
 
     /// These and the row of `entry`.
     pub(crate) fn counting(self, entry: Entry) -> Counts
-        requires { hasPlace widest self entry ≡ true }
+        requires { has_place widest self entry ≡ true }
         ensures { result ≡ counting self entry }
     {
         match entry {

@@ -1,6 +1,6 @@
 // What is wrong with a text, and where. Each layer carries the fault of the one below it whole.
 ghost use Rattle.std.specs.Prelude.{◌≡◌};
-ghost use Rattle.sheet.specs.Faults.{noticeAt, noticeOfField, noticeOfLine, noticeOfSheet};
+ghost use Rattle.sheet.specs.Faults.{notice_at, notice_of_field, notice_of_line, notice_of_sheet};
 ghost use Rattle.sheet.specs.declared.faults.LineFault.TheVariants.{Field};
 ghost use Rattle.sheet.specs.declared.faults.SheetFault.TheVariants.{Line};
 
@@ -59,7 +59,7 @@ impl From<LineFault> for SheetFault {
 
 impl Spot {
     fn notice(self, number: u8, layer: Layer) -> Notice
-        ensures { result ≡ noticeAt number layer self }
+        ensures { result ≡ notice_at number layer self }
     {
         let first = self.line;
         let second = u32::from(self.field);
@@ -75,7 +75,7 @@ impl Spot {
 impl FieldFault {
     /// The fault's number, layer and places.
     pub fn notice(self) -> Notice
-        ensures { result ≡ noticeOfField self }
+        ensures { result ≡ notice_of_field self }
     {
         match self {
             FieldFault::NotANumber(at) => at.notice(1, Layer::Field),
@@ -86,7 +86,7 @@ impl FieldFault {
 impl LineFault {
     /// The fault's number, layer and places.
     pub fn notice(self) -> Notice
-        ensures { result ≡ noticeOfLine self }
+        ensures { result ≡ notice_of_line self }
     {
         match self {
             LineFault::Field(fault) => fault.notice(),
@@ -101,7 +101,7 @@ impl LineFault {
 impl SheetFault {
     /// The fault's number, layer and places.
     pub fn notice(self) -> Notice
-        ensures { result ≡ noticeOfSheet self }
+        ensures { result ≡ notice_of_sheet self }
     {
         match self {
             SheetFault::Line(fault) => fault.notice(),

@@ -1,10 +1,10 @@
 // The fields of a line, and the number that a field writes.
 ghost use Rattle.std.specs.Prelude.{◌≡◌, ◌^◌, ◌<◌, IfOk};
 ghost use Rattle.sheet.specs.Checks.{answer, told};
-ghost use Rattle.sheet.specs.Faults.{noticeOfField};
+ghost use Rattle.sheet.specs.Faults.{notice_of_field};
 ghost use Rattle.sheet.specs.Lines.{fields_of};
-ghost use Rattle.sheet.specs.Numerals.{isNegative, digitsOf, digitsAfter, oneToFive, with_sign, value_of};
-ghost use Rattle.sheet.specs.Sheet.{magnitudeChecks, numeralChecks};
+ghost use Rattle.sheet.specs.Numerals.{is_negative, digits_of, digits_after, one_to_five, with_sign, value_of};
+ghost use Rattle.sheet.specs.Sheet.{magnitude_checks, numeral_checks};
 
 use crate::cuts::cut;
 use crate::faults::{FieldFault, Spot};
@@ -31,7 +31,7 @@ pub(crate) fn split_fields(text: &[u8]) -> Fields<'_>
 
 /// The number that a field writes: an optional minus and one to five digits.
 pub(crate) fn number(field: &[u8], at: Spot) -> Result<i32, FieldFault>
-    ensures { told noticeOfField result ≡ answer (numeralChecks at field.now) (value_of field.now) }
+    ensures { told notice_of_field result ≡ answer (numeral_checks at field.now) (value_of field.now) }
 {
     let (negative, digits) = split_sign(field);
     let n = magnitude(digits, at)?;
@@ -40,8 +40,8 @@ pub(crate) fn number(field: &[u8], at: Spot) -> Result<i32, FieldFault>
 
 /// Whether a field begins with a minus, and what it has besides.
 fn split_sign(field: &[u8]) -> (bool, &[u8])
-    ensures negative { result.0 ≡ isNegative field.now }
-    ensures digits { result.1.now ≡ digitsOf field.now }
+    ensures negative { result.0 ≡ is_negative field.now }
+    ensures digits { result.1.now ≡ digits_of field.now }
 {
     match field {
         [b'-', digits @ ..] => (true, digits),
@@ -61,7 +61,7 @@ fn with_sign(n: u32, negative: bool) -> i32
 
 /// The number that one to five digits write.
 fn magnitude(digits: &[u8], at: Spot) -> Result<u32, FieldFault>
-    ensures value { told noticeOfField result ≡ answer (magnitudeChecks at digits.now) (digitsAfter 0 digits.now) }
+    ensures value { told notice_of_field result ≡ answer (magnitude_checks at digits.now) (digits_after 0 digits.now) }
     ensures small { IfOk result (λ n. n < 10 ^ 5) }
 {
     if !one_to_five(digits) {
@@ -78,7 +78,7 @@ fn magnitude(digits: &[u8], at: Spot) -> Result<u32, FieldFault>
 }
 
 fn one_to_five(digits: &[u8]) -> bool
-    ensures { result ≡ oneToFive digits.now }
+    ensures { result ≡ one_to_five digits.now }
 {
     !digits.is_empty() && digits.len() <= 5
 }

@@ -1,12 +1,12 @@
 // The lines of a text, and what one line says.
 ghost use Rattle.std.specs.Prelude.{◌≡◌, false, ◌||◌, ◌∷◌, MatchResult, ◌==◌};
-ghost use Rattle.sheet.specs.Bytes.{lineFeed, space};
+ghost use Rattle.sheet.specs.Bytes.{line_feed, space};
 ghost use Rattle.sheet.specs.Checks.{answer, told};
 ghost use Rattle.sheet.specs.Cuts.{before, after};
-ghost use Rattle.sheet.specs.Faults.{noticeOfLine};
-ghost use Rattle.sheet.specs.Lines.{contentOf, fields_of, startsWithSpace};
+ghost use Rattle.sheet.specs.Faults.{notice_of_line};
+ghost use Rattle.sheet.specs.Lines.{content_of, fields_of, starts_with_space};
 ghost use Rattle.sheet.specs.Numerals.{value_of};
-ghost use Rattle.sheet.specs.Sheet.{coordinateChecks, namingChecks, pointChecks, faceChecks, contentChecks, pointNamed, pointSaid, faceSaid, entry_of};
+ghost use Rattle.sheet.specs.Sheet.{coordinate_checks, naming_checks, point_checks, face_checks, content_checks, point_named, point_said, face_said, entry_of};
 ghost use Rattle.sheet.specs.declared.faults.LineFault.TheVariants.{NoSuchStart};
 
 use crate::cuts::cut;
@@ -34,9 +34,9 @@ pub(crate) enum Entry {
 
 /// The first line of `text`, which has the number `number`, and what follows it.
 pub(crate) fn split_line(text: &[u8], number: u32) -> (Line<'_>, &[u8])
-    ensures bytes { result.0.bytes.now ≡ before lineFeed text.now }
+    ensures bytes { result.0.bytes.now ≡ before line_feed text.now }
     ensures number { result.0.number ≡ number }
-    ensures rest { result.1.now ≡ after lineFeed text.now }
+    ensures rest { result.1.now ≡ after line_feed text.now }
 {
     let (bytes, rest) = cut(text, b'\n');
     (Line { bytes, number }, rest)
@@ -44,7 +44,7 @@ pub(crate) fn split_line(text: &[u8], number: u32) -> (Line<'_>, &[u8])
 
 /// What `line` says, where `points` points stand above it.
 pub(crate) fn read_line(line: Line<'_>, points: u16) -> Result<Entry, LineFault>
-    ensures { told noticeOfLine result ≡ answer (contentChecks line.entry.number points (contentOf line.entry.bytes.now)) (entry_of line.entry.bytes.now) }
+    ensures { told notice_of_line result ≡ answer (content_checks line.entry.number points (content_of line.entry.bytes.now)) (entry_of line.entry.bytes.now) }
 {
     let number = line.number;
     let [letter, rest @ ..] = line.bytes else {
@@ -63,7 +63,7 @@ pub(crate) fn read_line(line: Line<'_>, points: u16) -> Result<Entry, LineFault>
 
 /// What follows the space at the front of `rest`, in the line `line`.
 fn after_space(rest: &[u8], line: u32) -> Result<&[u8], LineFault>
-    ensures { MatchResult result (λ s. rest.now ≡ space ∷ s.now) (λ e. (startsWithSpace rest.now ≡ false) × (e ≡ NoSuchStart (record { line = line; field = 0 }))) }
+    ensures { MatchResult result (λ s. rest.now ≡ space ∷ s.now) (λ e. (starts_with_space rest.now ≡ false) × (e ≡ NoSuchStart (record { line = line; field = 0 }))) }
 {
     match rest {
         [b' ', fields @ ..] => Ok(fields),
@@ -73,7 +73,7 @@ fn after_space(rest: &[u8], line: u32) -> Result<&[u8], LineFault>
 
 /// The point whose coordinates are the fields of `text`, in the line `line`. It rests.
 fn read_point(text: &[u8], line: u32) -> Result<Point, LineFault>
-    ensures { told noticeOfLine result ≡ answer (pointChecks line (fields_of text.now)) (pointSaid (fields_of text.now)) }
+    ensures { told notice_of_line result ≡ answer (point_checks line (fields_of text.now)) (point_said (fields_of text.now)) }
 {
     let fields = split_fields(text);
     let x = coordinate(fields.first, Spot { line, field: 1 })?;
@@ -84,7 +84,7 @@ fn read_point(text: &[u8], line: u32) -> Result<Point, LineFault>
 }
 
 fn coordinate(field: &[u8], at: Spot) -> Result<i16, LineFault>
-    ensures { told noticeOfLine result ≡ answer (coordinateChecks at field.now) (value_of field.now) }
+    ensures { told notice_of_line result ≡ answer (coordinate_checks at field.now) (value_of field.now) }
 {
     let value = number(field, at)?;
     if value < -(COORDINATE_BOUND as i32) {
@@ -98,7 +98,7 @@ fn coordinate(field: &[u8], at: Spot) -> Result<i16, LineFault>
 
 /// The face whose corners the fields of `text` name, in the line `line`, below `points` points.
 fn read_face(text: &[u8], line: u32, points: u16) -> Result<Face, LineFault>
-    ensures { told noticeOfLine result ≡ answer (faceChecks line points (fields_of text.now)) (faceSaid (fields_of text.now)) }
+    ensures { told notice_of_line result ≡ answer (face_checks line points (fields_of text.now)) (face_said (fields_of text.now)) }
 {
     let fields = split_fields(text);
     let second = Spot { line, field: 2 };
@@ -123,7 +123,7 @@ fn repeats(c: u16, a: u16, b: u16) -> bool
 
 /// The number, from 0, of the point that a field names by its number from 1.
 fn corner(field: &[u8], at: Spot, points: u16) -> Result<u16, LineFault>
-    ensures { told noticeOfLine result ≡ answer (namingChecks points at field.now) (pointNamed field.now) }
+    ensures { told notice_of_line result ≡ answer (naming_checks points at field.now) (point_named field.now) }
 {
     let value = number(field, at)?;
     if value < 1 {

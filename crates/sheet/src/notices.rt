@@ -1,6 +1,6 @@
 // How a fault is told: one line for every fault of every layer.
 ghost use Rattle.std.specs.Prelude.{Some};
-ghost use Rattle.sheet.specs.Notices.{name_of, faultLine};
+ghost use Rattle.sheet.specs.Notices.{name_of, fault_line};
 
 use std::fmt;
 
@@ -45,7 +45,7 @@ impl fmt::Display for Layer {
 }
 
 impl fmt::Display for Notice {
-    ghost output = { λ n. Some (faultLine n) };
+    ghost output = { λ n. Some (fault_line n) };
 
     fn fmt<W: fmt::Write>(&self, f: &mut fmt::Formatter<W>) -> fmt::Result {
         let number = self.number;

@@ -1,10 +1,10 @@
 // Reads a sheet in two passes: the first finds the first fault, or that there is none; the second writes the rows.
 ghost use Rattle.std.specs.Prelude.{◌≡◌, ◌≤◌, true, length, is_ok, IfOk, if◌then◌else◌, None};
-ghost use Rattle.sheet.specs.Checks.{firstFit, answer, told};
-ghost use Rattle.sheet.specs.Faults.{noticeOfSheet};
+ghost use Rattle.sheet.specs.Checks.{first_fit, answer, told};
+ghost use Rattle.sheet.specs.Faults.{notice_of_sheet};
 ghost use Rattle.sheet.specs.Lines.{lines_of};
-ghost use Rattle.sheet.specs.Passes.{none, total, passChecks, withPoint, withFace};
-ghost use Rattle.sheet.specs.Sheet.{textLimit, lineChecks, sheetChecks, hasPlace, entry_of, pointsIn, facesIn, draftOf, overlaid};
+ghost use Rattle.sheet.specs.Passes.{none, total, pass_checks, with_point, with_face};
+ghost use Rattle.sheet.specs.Sheet.{text_limit, line_checks, sheet_checks, has_place, entry_of, points_in, faces_in, draft_of, overlaid};
 
 use crate::counts::Counts;
 use crate::drafts::Draft;
@@ -21,9 +21,9 @@ pub fn read_sheet(
     points: &mut [Point],
     faces: &mut [Face],
 ) -> Result<Draft, SheetFault>
-    ensures answer { told noticeOfSheet result ≡ answer (sheetChecks text.now (length points.old) (length faces.old)) (draftOf text.now) }
-    ensures points { points.new ≡ (if is_ok result then overlaid (pointsIn (lines_of text.now)) points.old else points.old) }
-    ensures faces { faces.new ≡ (if is_ok result then overlaid (facesIn (lines_of text.now)) faces.old else faces.old) }
+    ensures answer { told notice_of_sheet result ≡ answer (sheet_checks text.now (length points.old) (length faces.old)) (draft_of text.now) }
+    ensures points { points.new ≡ (if is_ok result then overlaid (points_in (lines_of text.now)) points.old else points.old) }
+    ensures faces { faces.new ≡ (if is_ok result then overlaid (faces_in (lines_of text.now)) faces.old else faces.old) }
 {
     if text.len() > TEXT_LIMIT {
         return Err(SheetFault::TextTooLong);
@@ -41,8 +41,8 @@ pub fn read_sheet(
 
 /// The counts of the sheet that `text` writes, or its first fault.
 fn survey(text: &[u8], room: Counts) -> Result<Counts, SheetFault>
-    requires { length text.now ≤ textLimit }
-    ensures { told noticeOfSheet result ≡ answer (passChecks room 1 none (lines_of text.now)) (total none (lines_of text.now)) }
+    requires { length text.now ≤ text_limit }
+    ensures { told notice_of_sheet result ≡ answer (pass_checks room 1 none (lines_of text.now)) (total none (lines_of text.now)) }
 {
     let mut above = Counts::NONE;
     let mut rest = text;
@@ -59,12 +59,12 @@ fn survey(text: &[u8], room: Counts) -> Result<Counts, SheetFault>
 
 /// Writes the rows of the sheet that `text` writes, of which the survey has found no fault.
 fn fill(text: &[u8], room: Counts, points: &mut [Point], faces: &mut [Face])
-    requires short { length text.now ≤ textLimit }
+    requires short { length text.now ≤ text_limit }
     requires point_places { room.points ≤ length points.old }
     requires face_places { room.faces ≤ length faces.old }
-    requires good { firstFit (passChecks room 1 none (lines_of text.now)) ≡ None }
-    ensures points { points.new ≡ overlaid (pointsIn (lines_of text.now)) points.old }
-    ensures faces { faces.new ≡ overlaid (facesIn (lines_of text.now)) faces.old }
+    requires good { first_fit (pass_checks room 1 none (lines_of text.now)) ≡ None }
+    ensures points { points.new ≡ overlaid (points_in (lines_of text.now)) points.old }
+    ensures faces { faces.new ≡ overlaid (faces_in (lines_of text.now)) faces.old }
 {
     let mut above = Counts::NONE;
     let mut rest = text;
@@ -83,8 +83,8 @@ fn fill(text: &[u8], room: Counts, points: &mut [Point], faces: &mut [Face])
 
 /// What `line` says, below `above`, if it has no fault and there is room for its row.
 fn admit(line: Line<'_>, above: Counts, room: Counts) -> Result<Entry, SheetFault>
-    ensures answer { told noticeOfSheet result ≡ answer (lineChecks room line.entry.number above line.entry.bytes.now) (entry_of line.entry.bytes.now) }
-    ensures place { IfOk result (λ e. hasPlace room above e ≡ true) }
+    ensures answer { told notice_of_sheet result ≡ answer (line_checks room line.entry.number above line.entry.bytes.now) (entry_of line.entry.bytes.now) }
+    ensures place { IfOk result (λ e. has_place room above e ≡ true) }
 {
     let entry = read_line(line, above.points)?;
     if !room.has_place(entry, above) {
@@ -98,9 +98,9 @@ fn admit(line: Line<'_>, above: Counts, room: Counts) -> Result<Entry, SheetFaul
 
 /// Writes the row of `entry` into its table, after those of `above`.
 fn store(entry: Entry, above: Counts, points: &mut [Point], faces: &mut [Face])
-    requires { hasPlace (record { points = length points.now; faces = length faces.old }) above entry ≡ true }
-    ensures points { points.new ≡ withPoint above entry points.old }
-    ensures faces { faces.new ≡ withFace above entry faces.old }
+    requires { has_place (record { points = length points.now; faces = length faces.old }) above entry ≡ true }
+    ensures points { points.new ≡ with_point above entry points.old }
+    ensures faces { faces.new ≡ with_face above entry faces.old }
 {
     match entry {
         Entry::Nothing => {}

@@ -8,8 +8,8 @@ use Rattle.sheet.specs.Counted.{in_range}
 use Rattle.sheet.specs.declared.notices.Notice.{Notice}
 use Rattle.sheet.proofs.Answering.{fits-later}
 use Rattle.sheet.specs.declared.notices.Layer.TheVariants.{Step}
-use Rattle.step.specs.Faults.{noticeAt}
-use Rattle.step.specs.Laying.{check, moveIn, fieldChecks, end_in, afterField}
+use Rattle.step.specs.Faults.{notice_at}
+use Rattle.step.specs.Laying.{check, move_in, field_checks, end_in, after_field}
 use Rattle.step.specs.Record.{is_zero, word}
 use Rattle.step.specs.declared.faults.At.{At}
 
@@ -21,18 +21,18 @@ abbrev out : ℤ → List ℕ → Result (ℤ × List ℕ) Notice
 out v r = Ok (v, r)
 
 abbrev read : At → ℤ → List ℕ → Bool → Result (ℤ × List ℕ) Notice
-read a s bs stands = answer (fieldChecks a stands s bs) (end_in stands s bs, afterField stands bs)
+read a s bs stands = answer (field_checks a stands s bs) (end_in stands s bs, after_field stands bs)
 
 abbrev outside : ℤ → List ℕ → Bool
-outside s bs = not (in_range (s +ℤ moveIn bs))
+outside s bs = not (in_range (s +ℤ move_in bs))
 
-pub field-good : (a : At) (stands : Bool) (s by e : ℤ) (bs : List ℕ) → stands ≡ true → 2 ≤ length bs → by ≡ moveIn bs → (word by ≡ 0 → ⊥) → Some e ≡ cond (in_range (s +ℤ by)) (Some (s +ℤ by)) None → SFits w16 e → ◌≡◌ {A = Result (ℤ × List ℕ) Notice} (Ok (to_z w16 (of_z w16 e), take (length bs - 2) (drop 2 bs))) (answer (fieldChecks a stands s bs) (end_in stands s bs, afterField stands bs))
+pub field-good : (a : At) (stands : Bool) (s by e : ℤ) (bs : List ℕ) → stands ≡ true → 2 ≤ length bs → by ≡ move_in bs → (word by ≡ 0 → ⊥) → Some e ≡ cond (in_range (s +ℤ by)) (Some (s +ℤ by)) None → SFits w16 e → ◌≡◌ {A = Result (ℤ × List ℕ) Notice} (Ok (to_z w16 (of_z w16 e), take (length bs - 2) (drop 2 bs))) (answer (field_checks a stands s bs) (end_in stands s bs, after_field stands bs))
 field-good a stands s by e bs b l m n r f =
     let q = by-range (in_range (s +ℤ by)) (s +ℤ by) e r in
-    let x : ℤ × List ℕ = (s +ℤ moveIn bs, drop 2 bs) in
+    let x : ℤ × List ℕ = (s +ℤ move_in bs, drop 2 bs) in
     ap (λ v. out v (take (length bs - 2) (drop 2 bs))) (to_z-of_z w16 e f ∙ q.1 ∙ ap (λ v. s +ℤ v) m)
-    ∙ ap (out (s +ℤ moveIn bs)) (take_rest bs 2)
+    ∙ ap (out (s +ℤ move_in bs)) (take_rest bs 2)
     ∙ fits-later (outside s bs) _ [] x (not_from_true _ (ap (λ v. in_range (s +ℤ v)) (sym m) ∙ q.0))
-    ∙ fits-later (is_zero (moveIn bs)) (noticeAt 10 Step a) (check (outside s bs) 11 a ∷ []) x (ap is_zero (sym m) ∙ ne_eqb (word by) 0 n)
-    ∙ fits-later (ltb (length bs) 2) _ (check (is_zero (moveIn bs)) 10 a ∷ (check (outside s bs) 11 a ∷ [])) x (le-ltb (length bs) 2 l)
+    ∙ fits-later (is_zero (move_in bs)) (notice_at 10 Step a) (check (outside s bs) 11 a ∷ []) x (ap is_zero (sym m) ∙ ne_eqb (word by) 0 n)
+    ∙ fits-later (ltb (length bs) 2) _ (check (is_zero (move_in bs)) 10 a ∷ (check (outside s bs) 11 a ∷ [])) x (le-ltb (length bs) 2 l)
     ∙ ap (read a s bs) (sym b)

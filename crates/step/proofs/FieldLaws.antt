@@ -3,10 +3,10 @@ use Rattle.std.proofs.Common.{◌≡◌, ℕ, ◌+◌, ◌*◌, ◌/◌, ◌%◌
 use lib.Signed.{le_z}
 use Rattle.std.proofs.lemmas.Int.{ints, to_z-of_z, of_z-to_z}
 use Rattle.std.proofs.lemmas.Bool.{cond-false, eqb-true, ltb-false, le-ltb, and_parts, not-false, not_from_true}
-use Rattle.sheet.specs.Checks.{Check, firstFit}
+use Rattle.sheet.specs.Checks.{Check, first_fit}
 use Rattle.sheet.specs.Counted.{least, greatest, in_range}
 use Rattle.sheet.specs.declared.notices.Notice.{Notice}
-use Rattle.step.specs.Laying.{check, moveIn, fieldChecks, end_in, afterField}
+use Rattle.step.specs.Laying.{check, move_in, field_checks, end_in, after_field}
 use Rattle.step.specs.Record.{word, is_zero, field_of}
 use Rattle.step.specs.declared.faults.At.{At}
 
@@ -14,11 +14,11 @@ by-none : (b : Bool) (n : Notice) (o : Option Notice) → cond b (Some n) o ≡ 
 by-none true n o e = (cc, cc)
 by-none false n o e = (refl, e)
 
-pub no-fit : (c : Check) (cs : List Check) → firstFit (c ∷ cs) ≡ None → (c.fits ≡ false) × (firstFit cs ≡ None)
-no-fit c cs e = by-none c.fits c.tells (firstFit cs) e
+pub no-fit : (c : Check) (cs : List Check) → first_fit (c ∷ cs) ≡ None → (c.fits ≡ false) × (first_fit cs ≡ None)
+no-fit c cs e = by-none c.fits c.tells (first_fit cs) e
 
-pub fit_none : (c : Check) (cs : List Check) → c.fits ≡ false → firstFit cs ≡ None → firstFit (c ∷ cs) ≡ None
-fit_none c cs e f = cond-false c.fits (Some c.tells) (firstFit cs) e ∙ f
+pub fit_none : (c : Check) (cs : List Check) → c.fits ≡ false → first_fit cs ≡ None → first_fit (c ∷ cs) ≡ None
+fit_none c cs e f = cond-false c.fits (Some c.tells) (first_fit cs) e ∙ f
 
 -- every number of a list is a byte
 abbrev pub Bytes : List ℕ → Type 0
@@ -39,7 +39,7 @@ word_small z f = omega (arith, ints)
 two_bytes : (u : ℕ) → u < 65536 → u % 256 + u / 256 % 256 * 256 ≡ u
 two_bytes u h = omega arith
 
-move-back : (z : ℤ) (r : List ℕ) → SFits w16 z → moveIn (word z % 256 ∷ (word z / 256 % 256 ∷ r)) ≡ z
+move-back : (z : ℤ) (r : List ℕ) → SFits w16 z → move_in (word z % 256 ∷ (word z / 256 % 256 ∷ r)) ≡ z
 move-back z r f = ap (to_z w16) (two_bytes (word z) (word_small z f)) ∙ to_z-of_z w16 z f
 
 add_back : (s e : ℤ) → s +ℤ (e -ℤ s) ≡ e
@@ -49,16 +49,16 @@ zero-move : (s e : ℤ) → SFits w16 (e -ℤ s) → word (e -ℤ s) ≡ 0 → s
 zero-move s e f h = let k : e -ℤ s ≡ pos 0 = sym (to_z-of_z w16 (e -ℤ s) f) ∙ ap (to_z w16) h in omega (arith, ints)
 
 pub record ReadBack (a : At) (stands : Bool) (s e : ℤ) (bs r : List ℕ) : Type 0 where
-  pub good : firstFit (fieldChecks a stands s bs) ≡ None
+  pub good : first_fit (field_checks a stands s bs) ≡ None
   pub end : end_in stands s bs ≡ e
-  pub rest : afterField stands bs ≡ r
+  pub rest : after_field stands bs ≡ r
 
 -- the checks of a field from the second on, and from the third on
-abbrev fromTen : At → ℤ → List ℕ → List Check
-fromTen a s bs = check (is_zero (moveIn bs)) 10 a ∷ (check (not (in_range (s +ℤ moveIn bs))) 11 a ∷ [])
+abbrev from_ten : At → ℤ → List ℕ → List Check
+from_ten a s bs = check (is_zero (move_in bs)) 10 a ∷ (check (not (in_range (s +ℤ move_in bs))) 11 a ∷ [])
 
-abbrev fromEleven : At → ℤ → List ℕ → List Check
-fromEleven a s bs = check (not (in_range (s +ℤ moveIn bs))) 11 a ∷ []
+abbrev from_eleven : At → ℤ → List ℕ → List Check
+from_eleven a s bs = check (not (in_range (s +ℤ move_in bs))) 11 a ∷ []
 
 by_zero : (t : Bool) (a : At) (s e : ℤ) (r : List ℕ) → is_zero (e -ℤ s) ≡ t → SFits w16 (e -ℤ s) → in_range e ≡ true → ReadBack a (not t) s e (cond t [] (word (e -ℤ s) % 256 ∷ (word (e -ℤ s) / 256 % 256 ∷ [])) ++ r) r
 by_zero true a s e r z f g = record { good = refl; end = zero-move s e f (eqb-true (word (e -ℤ s)) 0 z); rest = refl }
@@ -66,9 +66,9 @@ by_zero false a s e r z f g =
     let m = move-back (e -ℤ s) r f in
     let bs = word (e -ℤ s) % 256 ∷ (word (e -ℤ s) / 256 % 256 ∷ r) in
     record {
-      good = fit_none (check (ltb (length bs) 2) 8 a) (fromTen a s bs) (le-ltb (length bs) 2 (omega arith))
-          (fit_none (check (is_zero (moveIn bs)) 10 a) (fromEleven a s bs) (ap is_zero m ∙ z)
-          (fit_none (check (not (in_range (s +ℤ moveIn bs))) 11 a) [] (not_from_true _ (ap (λ v. in_range (s +ℤ v)) m ∙ ap in_range (add_back s e) ∙ g)) refl));
+      good = fit_none (check (ltb (length bs) 2) 8 a) (from_ten a s bs) (le-ltb (length bs) 2 (omega arith))
+          (fit_none (check (is_zero (move_in bs)) 10 a) (from_eleven a s bs) (ap is_zero m ∙ z)
+          (fit_none (check (not (in_range (s +ℤ move_in bs))) 11 a) [] (not_from_true _ (ap (λ v. in_range (s +ℤ v)) m ∙ ap in_range (add_back s e) ∙ g)) refl));
       end = ap (λ v. s +ℤ v) m ∙ add_back s e;
       rest = refl;
     }
@@ -79,7 +79,7 @@ field_back a s e r p q = by_zero (is_zero (e -ℤ s)) a s e r refl (move-fits s 
 pub record WrittenSo (stands : Bool) (s : ℤ) (bs : List ℕ) : Type 0 where
   pub ranges : in_range (end_in stands s bs) ≡ true
   pub bit : is_zero (end_in stands s bs -ℤ s) ≡ not stands
-  pub bytes : field_of (end_in stands s bs -ℤ s) ++ afterField stands bs ≡ bs
+  pub bytes : field_of (end_in stands s bs -ℤ s) ++ after_field stands bs ≡ bs
 
 no_move : (s : ℤ) → s -ℤ s ≡ pos 0
 no_move s = omega (arith, ints)
@@ -93,27 +93,27 @@ low l h a b = omega arith
 high : (l h : ℕ) → l < 256 → h < 256 → (l + h * 256) / 256 % 256 ≡ h
 high l h a b = let q : (l + h * 256) / 256 ≡ h = omega arith in let w : h % 256 ≡ h = omega arith in ap (λ v. v % 256) q ∙ w
 
-spelt : (l h : ℕ) (r : List ℕ) → l < 256 → h < 256 → is_zero (moveIn (l ∷ (h ∷ r))) ≡ false → field_of (moveIn (l ∷ (h ∷ r))) ++ r ≡ l ∷ (h ∷ r)
+spelt : (l h : ℕ) (r : List ℕ) → l < 256 → h < 256 → is_zero (move_in (l ∷ (h ∷ r))) ≡ false → field_of (move_in (l ∷ (h ∷ r))) ++ r ≡ l ∷ (h ∷ r)
 spelt l h r a b z =
-    let u : word (moveIn (l ∷ (h ∷ r))) ≡ l + h * 256 = of_z-to_z w16 (l + h * 256) (omega arith) in
-    ap (λ t. t ++ r) (cond-false _ [] (word (moveIn (l ∷ (h ∷ r))) % 256 ∷ (word (moveIn (l ∷ (h ∷ r))) / 256 % 256 ∷ [])) z)
+    let u : word (move_in (l ∷ (h ∷ r))) ≡ l + h * 256 = of_z-to_z w16 (l + h * 256) (omega arith) in
+    ap (λ t. t ++ r) (cond-false _ [] (word (move_in (l ∷ (h ∷ r))) % 256 ∷ (word (move_in (l ∷ (h ∷ r))) / 256 % 256 ∷ [])) z)
     ∙ ap (λ v. v % 256 ∷ (v / 256 % 256 ∷ r)) u
     ∙ ap (λ v. v ∷ ((l + h * 256) / 256 % 256 ∷ r)) (low l h a b)
     ∙ ap (λ v. l ∷ (v ∷ r)) (high l h a b)
 
-two-or-more : (s : ℤ) (bs : List ℕ) → Bytes bs → 2 ≤ length bs → is_zero (moveIn bs) ≡ false → field_of (moveIn bs) ++ drop 2 bs ≡ bs
+two-or-more : (s : ℤ) (bs : List ℕ) → Bytes bs → 2 ≤ length bs → is_zero (move_in bs) ≡ false → field_of (move_in bs) ++ drop 2 bs ≡ bs
 two-or-more s [] B l z = absurd (omega arith)
 two-or-more s (x ∷ []) B l z = absurd (omega arith)
 two-or-more s (x ∷ (y ∷ r)) B l z = spelt x y r (B 0) (B 1) z
 
-pub field-only : (a : At) (stands : Bool) (s : ℤ) (bs : List ℕ) → Bytes bs → in_range s ≡ true → firstFit (fieldChecks a stands s bs) ≡ None → WrittenSo stands s bs
+pub field-only : (a : At) (stands : Bool) (s : ℤ) (bs : List ℕ) → Bytes bs → in_range s ≡ true → first_fit (field_checks a stands s bs) ≡ None → WrittenSo stands s bs
 field-only a false s bs B p g = record { ranges = p; bit = ap is_zero (no_move s); bytes = ap (λ v. field_of v ++ bs) (no_move s) }
 field-only a true s bs B p g =
-    let c8 = no-fit (check (ltb (length bs) 2) 8 a) (fromTen a s bs) g in
-    let c10 = no-fit (check (is_zero (moveIn bs)) 10 a) (fromEleven a s bs) c8.1 in
-    let c11 = no-fit (check (not (in_range (s +ℤ moveIn bs))) 11 a) [] c10.1 in
+    let c8 = no-fit (check (ltb (length bs) 2) 8 a) (from_ten a s bs) g in
+    let c10 = no-fit (check (is_zero (move_in bs)) 10 a) (from_eleven a s bs) c8.1 in
+    let c11 = no-fit (check (not (in_range (s +ℤ move_in bs))) 11 a) [] c10.1 in
     record {
       ranges = not-false _ c11.0;
-      bit = ap is_zero (sub_back s (moveIn bs)) ∙ c10.0;
-      bytes = ap (λ v. field_of v ++ drop 2 bs) (sub_back s (moveIn bs)) ∙ two-or-more s bs B (ltb-false (length bs) 2 c8.0) c10.0;
+      bit = ap is_zero (sub_back s (move_in bs)) ∙ c10.0;
+      bytes = ap (λ v. field_of v ++ drop 2 bs) (sub_back s (move_in bs)) ∙ two-or-more s bs B (ltb-false (length bs) 2 c8.0) c10.0;
     }

@@ -4,7 +4,7 @@ use Rattle.std.proofs.lemmas.List.{length-append}
 use Rattle.sheet.specs.declared.rows.Coords.{Coords}
 use Rattle.sheet.specs.declared.rows.Point.{Point}
 use Rattle.step.specs.Limit.{mover, Longest}
-use Rattle.step.specs.Record.{is_zero, field_of, movesRecord, moves_of, pointRecord, recordOf}
+use Rattle.step.specs.Record.{is_zero, field_of, moves_record, moves_of, point_record, record_of}
 
 two-at-most : (b : Bool) (l h : ℕ) → length (cond b [] (l ∷ (h ∷ []))) ≤ 2
 two-at-most true l h = omega arith
@@ -13,20 +13,20 @@ two-at-most false l h = omega arith
 field-most : (z : ℤ) → length (field_of z) ≤ 2
 field-most z = two-at-most (is_zero z) _ _
 
-moves-most : (m : Coords) → length (movesRecord m) ≤ 7
+moves-most : (m : Coords) → length (moves_record m) ≤ 7
 moves-most m =
     let x = field-most m.x in
     let y = field-most m.y in
     let z = field-most m.z in
     omega (arith, length-append (field_of m.x) (field_of m.y ++ field_of m.z), length-append (field_of m.y) (field_of m.z))
 
-rows-most : (ps : List Point) → length (recordOf ps) ≤ 7 * length ps
+rows-most : (ps : List Point) → length (record_of ps) ≤ 7 * length ps
 rows-most [] = omega arith
-rows-most (p ∷ ps) = let a = rows-most ps in let b = moves-most (moves_of p) in omega (arith, length-append (pointRecord p) (recordOf ps))
+rows-most (p ∷ ps) = let a = rows-most ps in let b = moves-most (moves_of p) in omega (arith, length-append (point_record p) (record_of ps))
 
-all-move : (m : ℕ) → length (recordOf (replicate m mover)) ≡ 7 * m
+all-move : (m : ℕ) → length (record_of (replicate m mover)) ≡ 7 * m
 all-move zero = refl
-all-move (suc m) = let a = all-move m in omega (arith, length-append (pointRecord mover) (recordOf (replicate m mover)))
+all-move (suc m) = let a = all-move m in omega (arith, length-append (point_record mover) (record_of (replicate m mover)))
 
 pub longest : (m : ℕ) → Longest m (7 * m)
 longest m = (λ ps h. omega (arith, rows-most ps), all-move m)

@@ -5,7 +5,7 @@ use Rattle.std.specs.List.{flat_map}
 use Rattle.std.proofs.lemmas.List.{append_assoc, length-append, length-take-le, take_at, drop_at, drop-drop, take-append-drop, flat_map_more, take_more, take_all}
 use Rattle.sheet.specs.declared.rows.Point.{Point}
 use Rattle.sheet.specs.declared.rows.Coords.{Coords}
-use Rattle.step.specs.Record.{field_of, movesRecord, pointRecord, recordOf}
+use Rattle.step.specs.Record.{field_of, moves_record, point_record, record_of}
 use Rattle.step.specs.Writing.{pasted}
 
 -- `out[a..n].copy_from_slice(zs)`
@@ -75,24 +75,24 @@ four out o1 o2 o3 o4 at a1 a2 a3 a4 m xs ys zs h e1 n1 e2 n2 e3 n3 e4 n4 =
 abbrev pub nowhere : Point
 nowhere = record { start = record { x = pos 0; y = pos 0; z = pos 0 }; end = record { x = pos 0; y = pos 0; z = pos 0 } }
 
-pub len-next : (ps : List Point) (i n r : ℕ) → i < length ps → n ≡ length (recordOf (take i ps)) → r ≡ length (pointRecord (get_or ps i nowhere)) → n + r ≡ length (recordOf (take (i + 1) ps))
-len-next ps i n r h e f = ap (λ k. k + r) e ∙ ap (λ k. length (recordOf (take i ps)) + k) f ∙ sym (joined_length pointRecord ps i nowhere h)
+pub len-next : (ps : List Point) (i n r : ℕ) → i < length ps → n ≡ length (record_of (take i ps)) → r ≡ length (point_record (get_or ps i nowhere)) → n + r ≡ length (record_of (take (i + 1) ps))
+len-next ps i n r h e f = ap (λ k. k + r) e ∙ ap (λ k. length (record_of (take i ps)) + k) f ∙ sym (joined_length point_record ps i nowhere h)
 
-pub room : (ps : List Point) (i at n : ℕ) → i < length ps → at ≡ length (recordOf (take i ps)) → length (recordOf ps) ≤ n → at + length (pointRecord (get_or ps i nowhere)) ≤ n
-room ps i at n h e g = let front = joined-front pointRecord ps (i + 1) in let more = len-next ps i at (length (pointRecord (get_or ps i nowhere))) h e refl in omega arith
+pub room : (ps : List Point) (i at n : ℕ) → i < length ps → at ≡ length (record_of (take i ps)) → length (record_of ps) ≤ n → at + length (point_record (get_or ps i nowhere)) ≤ n
+room ps i at n h e g = let front = joined-front point_record ps (i + 1) in let more = len-next ps i at (length (point_record (get_or ps i nowhere))) h e refl in omega arith
 
-pub out-next : (ps : List Point) (i at : ℕ) (entry o o' : List ℕ) → i < length ps → at ≡ length (recordOf (take i ps)) → o ≡ pasted entry 0 (recordOf (take i ps)) → length (recordOf ps) ≤ length entry → o' ≡ pasted o at (pointRecord (get_or ps i nowhere)) → o' ≡ pasted entry 0 (recordOf (take (i + 1) ps))
+pub out-next : (ps : List Point) (i at : ℕ) (entry o o' : List ℕ) → i < length ps → at ≡ length (record_of (take i ps)) → o ≡ pasted entry 0 (record_of (take i ps)) → length (record_of ps) ≤ length entry → o' ≡ pasted o at (point_record (get_or ps i nowhere)) → o' ≡ pasted entry 0 (record_of (take (i + 1) ps))
 out-next ps i at entry o o' h e f g a =
-    let front = joined-front pointRecord ps i in
-    then-paste entry o o' 0 at (recordOf (take i ps)) (pointRecord (get_or ps i nowhere)) (omega arith) f (omega arith) a ∙ ap (pasted entry 0) (joined-next pointRecord ps i nowhere h)
+    let front = joined-front point_record ps i in
+    then-paste entry o o' 0 at (record_of (take i ps)) (point_record (get_or ps i nowhere)) (omega arith) f (omega arith) a ∙ ap (pasted entry 0) (joined-next point_record ps i nowhere h)
 
-pub point-length : (m : Coords) (a b c : ℕ) → a ≡ length (field_of m.x) → b ≡ length (field_of m.y) → c ≡ length (field_of m.z) → 1 + a + b + c ≡ length (movesRecord m)
+pub point-length : (m : Coords) (a b c : ℕ) → a ≡ length (field_of m.x) → b ≡ length (field_of m.y) → c ≡ length (field_of m.z) → 1 + a + b + c ≡ length (moves_record m)
 point-length m a b c p q r =
     let l = length-append (field_of m.x) (field_of m.y ++ field_of m.z) in
     let k = length-append (field_of m.y) (field_of m.z) in
     omega arith
 
-pub out-all : (ps : List Point) (i at : ℕ) (entry o : List ℕ) → length ps ≤ i → at ≡ length (recordOf (take i ps)) → o ≡ pasted entry 0 (recordOf (take i ps)) → (at ≡ length (recordOf ps)) × (o ≡ recordOf ps ++ drop at entry)
+pub out-all : (ps : List Point) (i at : ℕ) (entry o : List ℕ) → length ps ≤ i → at ≡ length (record_of (take i ps)) → o ≡ pasted entry 0 (record_of (take i ps)) → (at ≡ length (record_of ps)) × (o ≡ record_of ps ++ drop at entry)
 out-all ps i at entry o h e f =
-    let all : at ≡ length (recordOf ps) = e ∙ ap (λ l. length (recordOf l)) (take_all i ps h) in
-    (all, f ∙ ap (λ l. pasted entry 0 (recordOf l)) (take_all i ps h) ∙ ap (λ n. recordOf ps ++ drop n entry) (zero-add (length (recordOf ps)) ∙ sym all))
+    let all : at ≡ length (record_of ps) = e ∙ ap (λ l. length (record_of l)) (take_all i ps h) in
+    (all, f ∙ ap (λ l. pasted entry 0 (record_of l)) (take_all i ps h) ∙ ap (λ n. record_of ps ++ drop n entry) (zero-add (length (record_of ps)) ∙ sym all))

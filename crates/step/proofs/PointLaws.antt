@@ -2,15 +2,15 @@
 use Rattle.std.proofs.Common.{◌≡◌, ℕ, zero, suc, ◌+◌, ◌*◌, ◌/◌, ◌%◌, ◌<◌, Bool, true, false, cond, not, eqb, ltb, List, [], ◌∷◌, ◌++◌, length, drop, ℤ, ◌-ℤ◌, None, sym, refl, ap, ◌∙◌, subst, inl, inr, one-mul, zero-mul, arith}
 use Rattle.std.proofs.lemmas.List.{append_assoc, get_or-drop}
 use Rattle.std.proofs.lemmas.Bool.{cond-true, cond-false, eq-eqb, ne_eqb, eqb-false, cases_eq, ltb-false, and_from, and_parts}
-use Rattle.sheet.specs.Checks.{Check, firstFit}
+use Rattle.sheet.specs.Checks.{Check, first_fit}
 use Rattle.sheet.specs.Counted.{in_range}
 use Rattle.sheet.specs.declared.rows.Coords.{Coords}
 use Rattle.step.specs.Faults.{place}
-use Rattle.step.specs.Laying.{check, afterField, bitStands, mapIn, xField, yField, zField, afterPoint, pointChecks, end_of}
-use Rattle.step.specs.Record.{is_zero, field_of, mapOf, movesRecord}
+use Rattle.step.specs.Laying.{check, after_field, bit_stands, map_in, x_field, y_field, z_field, after_point, point_checks, end_of}
+use Rattle.step.specs.Record.{is_zero, field_of, map_byte, moves_record}
 use Rattle.step.specs.Steps.{within}
 use Rattle.step.specs.declared.faults.At.{At}
-use Rattle.step.proofs.PointAnswers.{xChecks, yChecks, zChecks}
+use Rattle.step.proofs.PointAnswers.{x_checks, y_checks, z_checks}
 use Rattle.step.proofs.FieldLaws.{no-fit, fit_none, Bytes, ReadBack, field_back, field-only}
 
 -- how far each coordinate goes
@@ -23,7 +23,7 @@ abbrev bits : Bool → Bool → Bool → ℕ
 bits a b c = cond a 0 1 + cond b 0 2 + cond c 0 4
 
 -- each bit stands where its axis moves, and there is no other
-map_of : (a b c : Bool) → (bitStands (bits a b c) 1 ≡ not a) × (bitStands (bits a b c) 2 ≡ not b) × (bitStands (bits a b c) 4 ≡ not c) × (ltb 7 (bits a b c) ≡ false)
+map_of : (a b c : Bool) → (bit_stands (bits a b c) 1 ≡ not a) × (bit_stands (bits a b c) 2 ≡ not b) × (bit_stands (bits a b c) 4 ≡ not c) × (ltb 7 (bits a b c) ≡ false)
 map_of true true true = (refl, refl, refl, refl)
 map_of true true false = (refl, refl, refl, refl)
 map_of true false true = (refl, refl, refl, refl)
@@ -55,7 +55,7 @@ not-not : (b : Bool) → not (not b) ≡ b
 not-not true = refl
 not-not false = refl
 
-bits_are : (m : ℕ) (a b c : Bool) → m < 8 → a ≡ not (bitStands m 1) → b ≡ not (bitStands m 2) → c ≡ not (bitStands m 4) → bits a b c ≡ m
+bits_are : (m : ℕ) (a b c : Bool) → m < 8 → a ≡ not (bit_stands m 1) → b ≡ not (bit_stands m 2) → c ≡ not (bit_stands m 4) → bits a b c ≡ m
 bits_are m a b c h p q r =
     let x : cond a 0 1 ≡ m / 1 % 2 * 1 = ap (λ t. cond t 0 1) (p ∙ not-not (eqb (m / 1 % 2) 0)) ∙ bit-value (m / 1 % 2) 1 (omega arith) in
     let y : cond b 0 2 ≡ m / 2 % 2 * 2 = ap (λ t. cond t 0 2) (q ∙ not-not (eqb (m / 2 % 2) 0)) ∙ bit-value (m / 2 % 2) 2 (omega arith) in
@@ -66,32 +66,32 @@ bits_are m a b c h p q r =
 -- WHAT IS WRITTEN READS BACK
 
 pub record PointBack (i : ℕ) (s e : Coords) (bs r : List ℕ) : Type 0 where
-  pub good : firstFit (pointChecks i s bs) ≡ None
+  pub good : first_fit (point_checks i s bs) ≡ None
   pub end : end_of s bs ≡ e
-  pub rest : afterPoint bs ≡ r
+  pub rest : after_point bs ≡ r
 
-pub none-append : (cs ds : List Check) → firstFit cs ≡ None → firstFit ds ≡ None → firstFit (cs ++ ds) ≡ None
+pub none-append : (cs ds : List Check) → first_fit cs ≡ None → first_fit ds ≡ None → first_fit (cs ++ ds) ≡ None
 none-append [] ds e f = f
 none-append (c ∷ cs) ds e f = let p = no-fit c cs e in fit_none c (cs ++ ds) p.0 (none-append cs ds p.1 f)
 
-pub none-parts : (cs ds : List Check) → firstFit (cs ++ ds) ≡ None → (firstFit cs ≡ None) × (firstFit ds ≡ None)
+pub none-parts : (cs ds : List Check) → first_fit (cs ++ ds) ≡ None → (first_fit cs ≡ None) × (first_fit ds ≡ None)
 none-parts [] ds e = (refl, e)
 none-parts (c ∷ cs) ds e = let p = no-fit c (cs ++ ds) e in let q = none-parts cs ds p.1 in (fit_none c cs p.0 q.0, q.1)
 
-abbrev allFields : ℕ → Coords → List ℕ → List Check
-allFields i s bs = xChecks i s bs ++ (yChecks i s bs ++ zChecks i s bs)
+abbrev all_fields : ℕ → Coords → List ℕ → List Check
+all_fields i s bs = x_checks i s bs ++ (y_checks i s bs ++ z_checks i s bs)
 
-abbrev noByte : ℕ → List ℕ → Check
-noByte i bs = check (eqb (length bs) 0) 8 (place i 0)
+abbrev no_byte : ℕ → List ℕ → Check
+no_byte i bs = check (eqb (length bs) 0) 8 (place i 0)
 
-abbrev overSeven : ℕ → List ℕ → Check
-overSeven i bs = check (ltb 7 (mapIn bs)) 9 (place i 0)
+abbrev over_seven : ℕ → List ℕ → Check
+over_seven i bs = check (ltb 7 (map_in bs)) 9 (place i 0)
 
-all_none : (i : ℕ) (s : Coords) (bs : List ℕ) → eqb (length bs) 0 ≡ false → ltb 7 (mapIn bs) ≡ false → firstFit (xChecks i s bs) ≡ None → firstFit (yChecks i s bs) ≡ None → firstFit (zChecks i s bs) ≡ None → firstFit (pointChecks i s bs) ≡ None
+all_none : (i : ℕ) (s : Coords) (bs : List ℕ) → eqb (length bs) 0 ≡ false → ltb 7 (map_in bs) ≡ false → first_fit (x_checks i s bs) ≡ None → first_fit (y_checks i s bs) ≡ None → first_fit (z_checks i s bs) ≡ None → first_fit (point_checks i s bs) ≡ None
 all_none i s bs l m x y z =
-    fit_none (noByte i bs) (overSeven i bs ∷ allFields i s bs) l
-    (fit_none (overSeven i bs) (allFields i s bs) m
-    (none-append (xChecks i s bs) (yChecks i s bs ++ zChecks i s bs) x (none-append (yChecks i s bs) (zChecks i s bs) y z)))
+    fit_none (no_byte i bs) (over_seven i bs ∷ all_fields i s bs) l
+    (fit_none (over_seven i bs) (all_fields i s bs) m
+    (none-append (x_checks i s bs) (y_checks i s bs ++ z_checks i s bs) x (none-append (y_checks i s bs) (z_checks i s bs) y z)))
 
 -- a field read where it stands in the record
 read_at : (a : At) (b c : Bool) (s e : ℤ) (xs ys r : List ℕ) → b ≡ c → xs ≡ ys → ReadBack a c s e ys r → ReadBack a b s e xs r
@@ -100,7 +100,7 @@ read_at a b c s e xs ys r p q h = subst (λ t. ReadBack a t s e xs r) (sym p) (s
 same : (u v : Coords) → u.x ≡ v.x → u.y ≡ v.y → u.z ≡ v.z → ◌≡◌ {A = Coords} (record { x = u.x; y = u.y; z = u.z }) (record { x = v.x; y = v.y; z = v.z })
 same u v p q r = simp (p, q, r)
 
-pub point-back : (i : ℕ) (s e : Coords) (r : List ℕ) → within s ≡ true → within e ≡ true → PointBack i s e (movesRecord (apart s e) ++ r) r
+pub point-back : (i : ℕ) (s e : Coords) (r : List ℕ) → within s ≡ true → within e ≡ true → PointBack i s e (moves_record (apart s e) ++ r) r
 point-back i s e r p q =
     let sx = and_parts (in_range s.x) _ p in
     let sy = and_parts (in_range s.y) (in_range s.z) sx.1 in
@@ -110,16 +110,16 @@ point-back i s e r p q =
     let fx = field_of m.x in
     let fy = field_of m.y in
     let fz = field_of m.z in
-    let bs = movesRecord m ++ r in
+    let bs = moves_record m ++ r in
     let a = is_zero m.x in
     let b = is_zero m.y in
     let c = is_zero m.z in
-    let hx : ReadBack (place i 1) (bitStands (mapIn bs) 1) s.x e.x (xField bs) (fy ++ (fz ++ r))
-    = read_at (place i 1) (bitStands (mapIn bs) 1) (not a) s.x e.x (xField bs) (fx ++ (fy ++ (fz ++ r))) (fy ++ (fz ++ r)) (map_of a b c).0 (append_assoc fx (fy ++ fz) r ∙ ap (λ l. fx ++ l) (append_assoc fy fz r)) (field_back (place i 1) s.x e.x (fy ++ (fz ++ r)) sx.0 ex.0) in
-    let hy : ReadBack (place i 2) (bitStands (mapIn bs) 2) s.y e.y (yField bs) (fz ++ r)
-    = read_at (place i 2) (bitStands (mapIn bs) 2) (not b) s.y e.y (yField bs) (fy ++ (fz ++ r)) (fz ++ r) (map_of a b c).1 hx.rest (field_back (place i 2) s.y e.y (fz ++ r) sy.0 ey.0) in
-    let hz : ReadBack (place i 3) (bitStands (mapIn bs) 4) s.z e.z (zField bs) r
-    = read_at (place i 3) (bitStands (mapIn bs) 4) (not c) s.z e.z (zField bs) (fz ++ r) r (map_of a b c).2 hy.rest (field_back (place i 3) s.z e.z r sy.1 ey.1) in
+    let hx : ReadBack (place i 1) (bit_stands (map_in bs) 1) s.x e.x (x_field bs) (fy ++ (fz ++ r))
+    = read_at (place i 1) (bit_stands (map_in bs) 1) (not a) s.x e.x (x_field bs) (fx ++ (fy ++ (fz ++ r))) (fy ++ (fz ++ r)) (map_of a b c).0 (append_assoc fx (fy ++ fz) r ∙ ap (λ l. fx ++ l) (append_assoc fy fz r)) (field_back (place i 1) s.x e.x (fy ++ (fz ++ r)) sx.0 ex.0) in
+    let hy : ReadBack (place i 2) (bit_stands (map_in bs) 2) s.y e.y (y_field bs) (fz ++ r)
+    = read_at (place i 2) (bit_stands (map_in bs) 2) (not b) s.y e.y (y_field bs) (fy ++ (fz ++ r)) (fz ++ r) (map_of a b c).1 hx.rest (field_back (place i 2) s.y e.y (fz ++ r) sy.0 ey.0) in
+    let hz : ReadBack (place i 3) (bit_stands (map_in bs) 4) s.z e.z (z_field bs) r
+    = read_at (place i 3) (bit_stands (map_in bs) 4) (not c) s.z e.z (z_field bs) (fz ++ r) r (map_of a b c).2 hy.rest (field_back (place i 3) s.z e.z r sy.1 ey.1) in
     record {
       good = all_none i s bs (ne_eqb (length bs) 0 (λ h. omega arith)) (map_of a b c).3 hx.good hy.good hz.good;
       end = same (end_of s bs) e hx.end hy.end hz.end;
@@ -131,48 +131,48 @@ point-back i s e r p q =
 bytes_drop : (k : ℕ) (bs : List ℕ) → Bytes bs → Bytes (drop k bs)
 bytes_drop k bs B j = subst (λ v. v < 256) (sym (get_or-drop k bs j 0)) (B (k + j))
 
-bytes_after : (b : Bool) (bs : List ℕ) → Bytes bs → Bytes (afterField b bs)
+bytes_after : (b : Bool) (bs : List ℕ) → Bytes bs → Bytes (after_field b bs)
 bytes_after true bs B = bytes_drop 2 bs B
 bytes_after false bs B = B
 
 pub record PointOnly (s : Coords) (bs : List ℕ) : Type 0 where
   pub ranges : within (end_of s bs) ≡ true
-  pub bytes : movesRecord (apart s (end_of s bs)) ++ afterPoint bs ≡ bs
-  pub rest : Bytes (afterPoint bs)
+  pub bytes : moves_record (apart s (end_of s bs)) ++ after_point bs ≡ bs
+  pub rest : Bytes (after_point bs)
 
-by_map : (i : ℕ) (s : Coords) (bs : List ℕ) → Bytes bs → within s ≡ true → ltb 7 (mapIn bs) ≡ false → firstFit (xChecks i s bs) ≡ None → firstFit (yChecks i s bs) ≡ None → firstFit (zChecks i s bs) ≡ None → mapIn bs ∷ xField bs ≡ bs → PointOnly s bs
+by_map : (i : ℕ) (s : Coords) (bs : List ℕ) → Bytes bs → within s ≡ true → ltb 7 (map_in bs) ≡ false → first_fit (x_checks i s bs) ≡ None → first_fit (y_checks i s bs) ≡ None → first_fit (z_checks i s bs) ≡ None → map_in bs ∷ x_field bs ≡ bs → PointOnly s bs
 by_map i s bs B p m x y z front =
     let sx = and_parts (in_range s.x) _ p in
     let sy = and_parts (in_range s.y) (in_range s.z) sx.1 in
     let Bx = bytes_drop 1 bs B in
-    let By = bytes_after (bitStands (mapIn bs) 1) (xField bs) Bx in
-    let Bz = bytes_after (bitStands (mapIn bs) 2) (yField bs) By in
-    let wx = field-only (place i 1) (bitStands (mapIn bs) 1) s.x (xField bs) Bx sx.0 x in
-    let wy = field-only (place i 2) (bitStands (mapIn bs) 2) s.y (yField bs) By sy.0 y in
-    let wz = field-only (place i 3) (bitStands (mapIn bs) 4) s.z (zField bs) Bz sy.1 z in
+    let By = bytes_after (bit_stands (map_in bs) 1) (x_field bs) Bx in
+    let Bz = bytes_after (bit_stands (map_in bs) 2) (y_field bs) By in
+    let wx = field-only (place i 1) (bit_stands (map_in bs) 1) s.x (x_field bs) Bx sx.0 x in
+    let wy = field-only (place i 2) (bit_stands (map_in bs) 2) s.y (y_field bs) By sy.0 y in
+    let wz = field-only (place i 3) (bit_stands (map_in bs) 4) s.z (z_field bs) Bz sy.1 z in
     let e = end_of s bs in
     let d = apart s e in
     let fx = field_of d.x in
     let fy = field_of d.y in
     let fz = field_of d.z in
-    let h : mapIn bs < 8 = omega (arith, ltb-false 7 (mapIn bs) m) in
-    let map : mapOf d ≡ mapIn bs = bits_are (mapIn bs) (is_zero d.x) (is_zero d.y) (is_zero d.z) h wx.bit wy.bit wz.bit in
-    let body : (fx ++ (fy ++ fz)) ++ afterPoint bs ≡ xField bs
-    = append_assoc fx (fy ++ fz) (afterPoint bs) ∙ ap (λ l. fx ++ l) (append_assoc fy fz (afterPoint bs) ∙ ap (λ l. fy ++ l) wz.bytes ∙ wy.bytes) ∙ wx.bytes in
+    let h : map_in bs < 8 = omega (arith, ltb-false 7 (map_in bs) m) in
+    let map : map_byte d ≡ map_in bs = bits_are (map_in bs) (is_zero d.x) (is_zero d.y) (is_zero d.z) h wx.bit wy.bit wz.bit in
+    let body : (fx ++ (fy ++ fz)) ++ after_point bs ≡ x_field bs
+    = append_assoc fx (fy ++ fz) (after_point bs) ∙ ap (λ l. fx ++ l) (append_assoc fy fz (after_point bs) ∙ ap (λ l. fy ++ l) wz.bytes ∙ wy.bytes) ∙ wx.bytes in
     record {
       ranges = and_from (in_range e.x) _ wx.ranges (and_from (in_range e.y) (in_range e.z) wy.ranges wz.ranges);
-      bytes = ap (λ n. n ∷ ((fx ++ (fy ++ fz)) ++ afterPoint bs)) map ∙ ap (λ l. mapIn bs ∷ l) body ∙ front;
-      rest = bytes_after (bitStands (mapIn bs) 4) (zField bs) Bz;
+      bytes = ap (λ n. n ∷ ((fx ++ (fy ++ fz)) ++ after_point bs)) map ∙ ap (λ l. map_in bs ∷ l) body ∙ front;
+      rest = bytes_after (bit_stands (map_in bs) 4) (z_field bs) Bz;
     }
 
-front_of : (bs : List ℕ) → eqb (length bs) 0 ≡ false → mapIn bs ∷ xField bs ≡ bs
+front_of : (bs : List ℕ) → eqb (length bs) 0 ≡ false → map_in bs ∷ x_field bs ≡ bs
 front_of [] e = absurd (eqb-false 0 0 e refl)
 front_of (b ∷ bs) e = refl
 
-pub point-only : (i : ℕ) (s : Coords) (bs : List ℕ) → Bytes bs → within s ≡ true → firstFit (pointChecks i s bs) ≡ None → PointOnly s bs
+pub point-only : (i : ℕ) (s : Coords) (bs : List ℕ) → Bytes bs → within s ≡ true → first_fit (point_checks i s bs) ≡ None → PointOnly s bs
 point-only i s bs B p g =
-    let c8 = no-fit (noByte i bs) (overSeven i bs ∷ allFields i s bs) g in
-    let c9 = no-fit (overSeven i bs) (allFields i s bs) c8.1 in
-    let x = none-parts (xChecks i s bs) (yChecks i s bs ++ zChecks i s bs) c9.1 in
-    let y = none-parts (yChecks i s bs) (zChecks i s bs) x.1 in
+    let c8 = no-fit (no_byte i bs) (over_seven i bs ∷ all_fields i s bs) g in
+    let c9 = no-fit (over_seven i bs) (all_fields i s bs) c8.1 in
+    let x = none-parts (x_checks i s bs) (y_checks i s bs ++ z_checks i s bs) c9.1 in
+    let y = none-parts (y_checks i s bs) (z_checks i s bs) x.1 in
     by_map i s bs B p c9.0 x.0 y.0 y.1 (front_of bs c8.0)

@@ -4,14 +4,14 @@ use lib.Signed.{lt_z, le_z}
 use Rattle.std.proofs.lemmas.List.{nil_from_length}
 use Rattle.std.proofs.lemmas.Int.{ints}
 use Rattle.std.proofs.lemmas.Bool.{cond-false, and_from, and_parts, eqb-true, not-false}
-use Rattle.sheet.specs.Checks.{firstFit}
+use Rattle.sheet.specs.Checks.{first_fit}
 use Rattle.sheet.specs.Counted.{least, greatest, in_range, held, counted}
 use Rattle.sheet.specs.declared.rows.Coords.{Coords}
 use Rattle.sheet.specs.declared.rows.Point.{Point}
 use Rattle.step.specs.Faults.{place}
-use Rattle.step.specs.Laying.{check, pointChecks, end_of, afterPoint, rowsChecks, laid}
-use Rattle.step.specs.Record.{moves_of, movesRecord, pointRecord, recordOf}
-use Rattle.step.specs.Steps.{within, Ends, Step, asCounted}
+use Rattle.step.specs.Laying.{check, point_checks, end_of, after_point, rows_checks, laid}
+use Rattle.step.specs.Record.{moves_of, moves_record, point_record, record_of}
+use Rattle.step.specs.Steps.{within, Ends, Step, as_counted}
 use Rattle.step.proofs.FieldLaws.{no-fit, Bytes}
 use Rattle.step.proofs.PointLaws.{apart, none-append, none-parts, PointBack, point-back, point-only}
 
@@ -57,19 +57,19 @@ moves-are p q e w =
 
 -- WHAT IS WRITTEN READS BACK
 
-pub rows_back : (i : ℕ) (ps qs : List Point) → Ends ps qs → (firstFit (rowsChecks i ps (recordOf qs)) ≡ None) × (laid ps (recordOf qs) ≡ qs)
+pub rows_back : (i : ℕ) (ps qs : List Point) → Ends ps qs → (first_fit (rows_checks i ps (record_of qs)) ≡ None) × (laid ps (record_of qs) ≡ qs)
 rows_back i [] [] e = (refl, refl)
 rows_back i [] (q ∷ qs) e = absurd e
 rows_back i (p ∷ ps) [] e = absurd e
 rows_back i (p ∷ ps) (q ∷ qs) e =
     let s = counted p.start in
     let m = moves-are p q e.0 e.1 in
-    let b : PointBack i s q.end (recordOf (q ∷ qs)) (recordOf qs)
-    = subst (λ v. PointBack i s q.end (movesRecord v ++ recordOf qs) (recordOf qs)) (sym m) (point-back i s q.end (recordOf qs) (counted-within p.start) e.1) in
+    let b : PointBack i s q.end (record_of (q ∷ qs)) (record_of qs)
+    = subst (λ v. PointBack i s q.end (moves_record v ++ record_of qs) (record_of qs)) (sym m) (point-back i s q.end (record_of qs) (counted-within p.start) e.1) in
     let more = rows_back (i + 1) ps qs e.2 in (
-      none-append (pointChecks i s (recordOf (q ∷ qs))) (rowsChecks (i + 1) ps (afterPoint (recordOf (q ∷ qs)))) b.good (ap (λ r. firstFit (rowsChecks (i + 1) ps r)) b.rest ∙ more.0),
-      ap (λ v. record { start = v; end = end_of s (recordOf (q ∷ qs)) } ∷ laid ps (afterPoint (recordOf (q ∷ qs)))) (sym e.0)
-          ∙ ap (λ v. record { start = q.start; end = v } ∷ laid ps (afterPoint (recordOf (q ∷ qs)))) b.end
+      none-append (point_checks i s (record_of (q ∷ qs))) (rows_checks (i + 1) ps (after_point (record_of (q ∷ qs)))) b.good (ap (λ r. first_fit (rows_checks (i + 1) ps r)) b.rest ∙ more.0),
+      ap (λ v. record { start = v; end = end_of s (record_of (q ∷ qs)) } ∷ laid ps (after_point (record_of (q ∷ qs)))) (sym e.0)
+          ∙ ap (λ v. record { start = q.start; end = v } ∷ laid ps (after_point (record_of (q ∷ qs)))) b.end
           ∙ ap (λ r. q ∷ laid ps r) b.rest
           ∙ ap (λ t. q ∷ t) more.1,
     )
@@ -79,17 +79,17 @@ rows_back i (p ∷ ps) (q ∷ qs) e =
 no_more : (bs : List ℕ) → not (eqb (length bs) 0) ≡ false → [] ≡ bs
 no_more bs e = sym (nil_from_length bs (eqb-true (length bs) 0 (not-false _ e)))
 
-pub rows-only : (i : ℕ) (ps : List Point) (bs : List ℕ) → Bytes bs → firstFit (rowsChecks i ps bs) ≡ None → Step ps bs (laid ps bs)
+pub rows-only : (i : ℕ) (ps : List Point) (bs : List ℕ) → Bytes bs → first_fit (rows_checks i ps bs) ≡ None → Step ps bs (laid ps bs)
 rows-only i [] bs B g = (tt, no_more bs (no-fit (check (not (eqb (length bs) 0)) 12 (place 0 0)) [] g).0)
 rows-only i (p ∷ ps) bs B g =
     let s = counted p.start in
     let q : Point = record { start = p.start; end = end_of s bs } in
-    let parts = none-parts (pointChecks i s bs) (rowsChecks (i + 1) ps (afterPoint bs)) g in
+    let parts = none-parts (point_checks i s bs) (rows_checks (i + 1) ps (after_point bs)) g in
     let o = point-only i s bs B (counted-within p.start) parts.0 in
-    let more = rows-only (i + 1) ps (afterPoint bs) o.rest parts.1 in (
+    let more = rows-only (i + 1) ps (after_point bs) o.rest parts.1 in (
       (refl, o.ranges, more.0),
-      ap (λ m. movesRecord m ++ recordOf (laid ps (afterPoint bs))) (moves-are p q refl o.ranges)
-          ∙ ap (λ r. movesRecord (apart s (end_of s bs)) ++ r) more.1
+      ap (λ m. moves_record m ++ record_of (laid ps (after_point bs))) (moves-are p q refl o.ranges)
+          ∙ ap (λ r. moves_record (apart s (end_of s bs)) ++ r) more.1
           ∙ o.bytes,
     )
 
@@ -104,10 +104,10 @@ moves-counted p =
     ∙ ap (λ v. record { x = held p.end.x -ℤ held p.start.x; y = v -ℤ held p.start.y; z = held (held p.end.z) -ℤ held p.start.z }) hy
     ∙ ap (λ v. record { x = held p.end.x -ℤ held p.start.x; y = held p.end.y -ℤ held p.start.y; z = v -ℤ held p.start.z }) hz
 
-pub counted_step : (ps : List Point) → Step ps (recordOf ps) (asCounted ps)
+pub counted_step : (ps : List Point) → Step ps (record_of ps) (as_counted ps)
 counted_step [] = (tt, refl)
 counted_step (p ∷ ps) =
     let more = counted_step ps in (
       (refl, counted-within p.end, more.0),
-      ap (λ m. movesRecord m ++ recordOf (asCounted ps)) (moves-counted p) ∙ ap (λ r. pointRecord p ++ r) more.1,
+      ap (λ m. moves_record m ++ record_of (as_counted ps)) (moves-counted p) ∙ ap (λ r. point_record p ++ r) more.1,
     )

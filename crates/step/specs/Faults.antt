@@ -13,17 +13,17 @@ use Rattle.step.specs.declared.faults.WriterFault.TheVariants as writer
 abbrev pub place : ℕ → ℕ → At
 place i k = record { point = i; field = k }
 
-abbrev pub noticeAt : ℕ → Layer → At → Notice
-noticeAt n l a = record { number = n; layer = l; first = a.point; second = a.field }
+abbrev pub notice_at : ℕ → Layer → At → Notice
+notice_at n l a = record { number = n; layer = l; first = a.point; second = a.field }
 
-abbrev pub noticeOfStep : StepFault → Notice
-noticeOfStep step.TableTooShort = noticeAt 13 Step (place 0 0)
-noticeOfStep (step.EndsEarly a) = noticeAt 8 Step a
-noticeOfStep (step.MapTooLarge a) = noticeAt 9 Step a
-noticeOfStep (step.MoveOfZero a) = noticeAt 10 Step a
-noticeOfStep (step.EndOutside a) = noticeAt 11 Step a
-noticeOfStep step.BytesLeft = noticeAt 12 Step (place 0 0)
+abbrev pub notice_of_step : StepFault → Notice
+notice_of_step step.TableTooShort = notice_at 13 Step (place 0 0)
+notice_of_step (step.EndsEarly a) = notice_at 8 Step a
+notice_of_step (step.MapTooLarge a) = notice_at 9 Step a
+notice_of_step (step.MoveOfZero a) = notice_at 10 Step a
+notice_of_step (step.EndOutside a) = notice_at 11 Step a
+notice_of_step step.BytesLeft = notice_at 12 Step (place 0 0)
 
-abbrev pub noticeOfWriter : WriterFault → Notice
-noticeOfWriter writer.TableTooShort = noticeAt 13 Writer (place 0 0)
-noticeOfWriter writer.OutputTooShort = noticeAt 14 Writer (place 0 0)
+abbrev pub notice_of_writer : WriterFault → Notice
+notice_of_writer writer.TableTooShort = notice_at 13 Writer (place 0 0)
+notice_of_writer writer.OutputTooShort = notice_at 14 Writer (place 0 0)

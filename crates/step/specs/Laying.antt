@@ -7,80 +7,80 @@ use Rattle.sheet.specs.Counted.{counted, in_range}
 use Rattle.sheet.specs.declared.notices.Layer.TheVariants.{Step}
 use Rattle.sheet.specs.declared.rows.Coords.{Coords}
 use Rattle.sheet.specs.declared.rows.Point.{Point}
-use Rattle.step.specs.Faults.{place, noticeAt}
+use Rattle.step.specs.Faults.{place, notice_at}
 use Rattle.step.specs.Record.{is_zero}
 use Rattle.step.specs.declared.faults.At.{At}
 
 -- the row `number` of the fault table, which fits at a where b holds
 abbrev pub check : Bool → ℕ → At → Check
-check b number a = record { fits = b; tells = noticeAt number Step a }
+check b number a = record { fits = b; tells = notice_at number Step a }
 
 -- A FIELD
 
 -- the move that the first two bytes are
-abbrev pub moveIn : List ℕ → ℤ
-moveIn bs = to_z w16 (slice_index bs 0 + slice_index bs 1 * 256)
+abbrev pub move_in : List ℕ → ℤ
+move_in bs = to_z w16 (slice_index bs 0 + slice_index bs 1 * 256)
 
 -- the checks of a field whose bit stands, or of one that is not there; s is the start as it counts
-abbrev pub fieldChecks : At → Bool → ℤ → List ℕ → List Check
-fieldChecks a stands s bs = cond stands (check (nat_lt (length bs) 2) 8 a ∷ (check (is_zero (moveIn bs)) 10 a ∷ (check (not (in_range (s +ℤ moveIn bs))) 11 a ∷ []))) []
+abbrev pub field_checks : At → Bool → ℤ → List ℕ → List Check
+field_checks a stands s bs = cond stands (check (nat_lt (length bs) 2) 8 a ∷ (check (is_zero (move_in bs)) 10 a ∷ (check (not (in_range (s +ℤ move_in bs))) 11 a ∷ []))) []
 
 -- the end that it gives, and the bytes after it
 abbrev pub end_in : Bool → ℤ → List ℕ → ℤ
-end_in stands s bs = cond stands (s +ℤ moveIn bs) s
+end_in stands s bs = cond stands (s +ℤ move_in bs) s
 
-abbrev pub afterField : Bool → List ℕ → List ℕ
-afterField stands bs = cond stands (drop 2 bs) bs
+abbrev pub after_field : Bool → List ℕ → List ℕ
+after_field stands bs = cond stands (drop 2 bs) bs
 
 -- A POINT
 
 -- bit k of a map stands: k is 1, 2 or 4
-abbrev pub bitStands : ℕ → ℕ → Bool
-bitStands map k = not (map / k % 2 == 0)
+abbrev pub bit_stands : ℕ → ℕ → Bool
+bit_stands map k = not (map / k % 2 == 0)
 
 -- what follows the map, and the fields one after the other
 
-abbrev pub mapIn : List ℕ → ℕ
-mapIn bs = slice_index bs 0
+abbrev pub map_in : List ℕ → ℕ
+map_in bs = slice_index bs 0
 
-abbrev pub xField : List ℕ → List ℕ
-xField bs = drop 1 bs
+abbrev pub x_field : List ℕ → List ℕ
+x_field bs = drop 1 bs
 
-abbrev pub yField : List ℕ → List ℕ
-yField bs = afterField (bitStands (mapIn bs) 1) (xField bs)
+abbrev pub y_field : List ℕ → List ℕ
+y_field bs = after_field (bit_stands (map_in bs) 1) (x_field bs)
 
-abbrev pub zField : List ℕ → List ℕ
-zField bs = afterField (bitStands (mapIn bs) 2) (yField bs)
+abbrev pub z_field : List ℕ → List ℕ
+z_field bs = after_field (bit_stands (map_in bs) 2) (y_field bs)
 
-abbrev pub afterPoint : List ℕ → List ℕ
-afterPoint bs = afterField (bitStands (mapIn bs) 4) (zField bs)
+abbrev pub after_point : List ℕ → List ℕ
+after_point bs = after_field (bit_stands (map_in bs) 4) (z_field bs)
 
 -- the checks of point i, which counts to start at s
-abbrev pub pointChecks : ℕ → Coords → List ℕ → List Check
-pointChecks i s bs =
+abbrev pub point_checks : ℕ → Coords → List ℕ → List Check
+point_checks i s bs =
     check (length bs == 0) 8 (place i 0)
-    ∷ (check (nat_lt 7 (mapIn bs)) 9 (place i 0)
-    ∷ (fieldChecks (place i 1) (bitStands (mapIn bs) 1) s.x (xField bs)
-    ++ (fieldChecks (place i 2) (bitStands (mapIn bs) 2) s.y (yField bs)
-    ++ fieldChecks (place i 3) (bitStands (mapIn bs) 4) s.z (zField bs))))
+    ∷ (check (nat_lt 7 (map_in bs)) 9 (place i 0)
+    ∷ (field_checks (place i 1) (bit_stands (map_in bs) 1) s.x (x_field bs)
+    ++ (field_checks (place i 2) (bit_stands (map_in bs) 2) s.y (y_field bs)
+    ++ field_checks (place i 3) (bit_stands (map_in bs) 4) s.z (z_field bs))))
 
 abbrev pub end_of : Coords → List ℕ → Coords
-end_of s bs = record { x = end_in (bitStands (mapIn bs) 1) s.x (xField bs); y = end_in (bitStands (mapIn bs) 2) s.y (yField bs); z = end_in (bitStands (mapIn bs) 4) s.z (zField bs) }
+end_of s bs = record { x = end_in (bit_stands (map_in bs) 1) s.x (x_field bs); y = end_in (bit_stands (map_in bs) 2) s.y (y_field bs); z = end_in (bit_stands (map_in bs) 4) s.z (z_field bs) }
 
 -- A TABLE
 
-abbrev pub rowsChecks : ℕ → List Point → List ℕ → List Check
-rowsChecks i [] bs = check (not (length bs == 0)) 12 (place 0 0) ∷ []
-rowsChecks i (p ∷ ps) bs = pointChecks i (counted p.start) bs ++ rowsChecks (i + 1) ps (afterPoint bs)
+abbrev pub rows_checks : ℕ → List Point → List ℕ → List Check
+rows_checks i [] bs = check (not (length bs == 0)) 12 (place 0 0) ∷ []
+rows_checks i (p ∷ ps) bs = point_checks i (counted p.start) bs ++ rows_checks (i + 1) ps (after_point bs)
 
 -- the rows with their new ends; starts keep what they hold
 abbrev pub laid : List Point → List ℕ → List Point
 laid [] bs = []
-laid (p ∷ ps) bs = record { start = p.start; end = end_of (counted p.start) bs } ∷ laid ps (afterPoint bs)
+laid (p ∷ ps) bs = record { start = p.start; end = end_of (counted p.start) bs } ∷ laid ps (after_point bs)
 
 -- all checks of a record, for the first n rows of a table
-abbrev pub layChecks : ℕ → List Point → List ℕ → List Check
-layChecks n points bs = check (nat_lt (length points) n) 13 (place 0 0) ∷ rowsChecks 0 (take n points) bs
+abbrev pub lay_checks : ℕ → List Point → List ℕ → List Check
+lay_checks n points bs = check (nat_lt (length points) n) 13 (place 0 0) ∷ rows_checks 0 (take n points) bs
 
 -- the answer of a call that says no more than that it is done
 abbrev pub done : Unit {0}

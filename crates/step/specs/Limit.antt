@@ -1,8 +1,8 @@
 -- How long a record can be.
 use Rattle.std.specs.Prelude.{◌≡◌, ℕ, ◌*◌, ◌≤◌, List, length, replicate, pos}
-use Rattle.sheet.specs.Sheet.{pointLimit}
+use Rattle.sheet.specs.Sheet.{point_limit}
 use Rattle.sheet.specs.declared.rows.Point.{Point}
-use Rattle.step.specs.Record.{recordOf}
+use Rattle.step.specs.Record.{record_of}
 
 -- a point that moves on every axis
 abbrev pub mover : Point
@@ -10,8 +10,8 @@ mover = record { start = record { x = pos 0; y = pos 0; z = pos 0 }; end = recor
 
 -- n is the length of the longest record that m points have: none is longer, also of fewer points, and m points that move on every axis have it
 abbrev pub Longest : ℕ → ℕ → Type 0
-Longest m n = ((ps : List Point) → length ps ≤ m → length (recordOf ps) ≤ n) × (length (recordOf (replicate m mover)) ≡ n)
+Longest m n = ((ps : List Point) → length ps ≤ m → length (record_of ps) ≤ n) × (length (record_of (replicate m mover)) ≡ n)
 
 -- the longest record of a sheet
-abbrev pub recordLimit : ℕ
-recordLimit = 7 * pointLimit
+abbrev pub record_limit : ℕ
+record_limit = 7 * point_limit

@@ -29,15 +29,15 @@ field_of z = cond (is_zero z) [] (word z % 256 ∷ (word z / 256 % 256 ∷ []))
 abbrev pub bit_of : ℤ → ℕ → ℕ
 bit_of z k = cond (is_zero z) 0 k
 
-abbrev pub mapOf : Coords → ℕ
-mapOf m = bit_of m.x 1 + bit_of m.y 2 + bit_of m.z 4
+abbrev pub map_byte : Coords → ℕ
+map_byte m = bit_of m.x 1 + bit_of m.y 2 + bit_of m.z 4
 
 -- the map byte, then the fields of x, y and z
-abbrev pub movesRecord : Coords → List ℕ
-movesRecord m = mapOf m ∷ (field_of m.x ++ (field_of m.y ++ field_of m.z))
+abbrev pub moves_record : Coords → List ℕ
+moves_record m = map_byte m ∷ (field_of m.x ++ (field_of m.y ++ field_of m.z))
 
-abbrev pub pointRecord : Point → List ℕ
-pointRecord p = movesRecord (moves_of p)
+abbrev pub point_record : Point → List ℕ
+point_record p = moves_record (moves_of p)
 
-abbrev pub recordOf : List Point → List ℕ
-recordOf ps = flat_map pointRecord ps
+abbrev pub record_of : List Point → List ℕ
+record_of ps = flat_map point_record ps

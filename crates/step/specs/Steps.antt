@@ -3,7 +3,7 @@ use Rattle.std.specs.Prelude.{◌≡◌, ℕ, Bool, true, ◌&&◌, List, [], �
 use Rattle.sheet.specs.Counted.{counted, in_range}
 use Rattle.sheet.specs.declared.rows.Coords.{Coords}
 use Rattle.sheet.specs.declared.rows.Point.{Point}
-use Rattle.step.specs.Record.{recordOf}
+use Rattle.step.specs.Record.{record_of}
 
 abbrev pub within : Coords → Bool
 within p = in_range p.x && (in_range p.y && in_range p.z)
@@ -17,9 +17,9 @@ Ends (p ∷ ps) (q ∷ qs) = (q.start ≡ p.start) × (within q.end ≡ true) ×
 
 -- bs is the record of ps with the ends of qs
 abbrev pub Step : List Point → List ℕ → List Point → Type 0
-Step ps bs qs = Ends ps qs × (recordOf qs ≡ bs)
+Step ps bs qs = Ends ps qs × (record_of qs ≡ bs)
 
 -- rows with their ends as they count
-abbrev pub asCounted : List Point → List Point
-asCounted [] = []
-asCounted (p ∷ ps) = record { start = p.start; end = counted p.end } ∷ asCounted ps
+abbrev pub as_counted : List Point → List Point
+as_counted [] = []
+as_counted (p ∷ ps) = record { start = p.start; end = counted p.end } ∷ as_counted ps

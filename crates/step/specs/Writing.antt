@@ -3,14 +3,14 @@ use Rattle.std.specs.Prelude.{ℕ, ◌+◌, List, [], ◌∷◌, ◌++◌, lengt
 use Rattle.sheet.specs.Checks.{Check}
 use Rattle.sheet.specs.declared.notices.Layer.TheVariants.{Writer}
 use Rattle.sheet.specs.declared.rows.Point.{Point}
-use Rattle.step.specs.Faults.{place, noticeAt}
-use Rattle.step.specs.Record.{recordOf}
+use Rattle.step.specs.Faults.{place, notice_at}
+use Rattle.step.specs.Record.{record_of}
 
 -- all checks, for the first n rows of a table and an output of so many bytes
-abbrev pub writeChecks : ℕ → List Point → ℕ → List Check
-writeChecks n points places =
-    record { fits = nat_lt (length points) n; tells = noticeAt 13 Writer (place 0 0) }
-    ∷ (record { fits = nat_lt places (length (recordOf (take n points))); tells = noticeAt 14 Writer (place 0 0) } ∷ [])
+abbrev pub write_checks : ℕ → List Point → ℕ → List Check
+write_checks n points places =
+    record { fits = nat_lt (length points) n; tells = notice_at 13 Writer (place 0 0) }
+    ∷ (record { fits = nat_lt places (length (record_of (take n points))); tells = notice_at 14 Writer (place 0 0) } ∷ [])
 
 -- bs in place of what stands at i
 abbrev pub pasted : List ℕ → ℕ → List ℕ → List ℕ

@@ -1,6 +1,6 @@
 // What is wrong with a record, or with the tables that a call was lent.
 ghost use Rattle.std.specs.Prelude.{◌≡◌};
-ghost use Rattle.step.specs.Faults.{noticeAt, noticeOfStep, noticeOfWriter};
+ghost use Rattle.step.specs.Faults.{notice_at, notice_of_step, notice_of_writer};
 
 use sheet::{Layer, Notice};
 
@@ -40,7 +40,7 @@ const NOWHERE: At = At { point: 0, field: 0 };
 
 impl At {
     fn notice(self, number: u8, layer: Layer) -> Notice
-        ensures { result ≡ noticeAt number layer self }
+        ensures { result ≡ notice_at number layer self }
     {
         let first = self.point;
         let second = u32::from(self.field);
@@ -56,7 +56,7 @@ impl At {
 impl StepFault {
     /// The fault's number, layer and places.
     pub fn notice(self) -> Notice
-        ensures { result ≡ noticeOfStep self }
+        ensures { result ≡ notice_of_step self }
     {
         match self {
             StepFault::TableTooShort => NOWHERE.notice(13, Layer::Step),
@@ -72,7 +72,7 @@ impl StepFault {
 impl WriterFault {
     /// The fault's number, layer and places.
     pub fn notice(self) -> Notice
-        ensures { result ≡ noticeOfWriter self }
+        ensures { result ≡ notice_of_writer self }
     {
         match self {
             WriterFault::TableTooShort => NOWHERE.notice(13, Layer::Writer),

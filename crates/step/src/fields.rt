@@ -2,9 +2,9 @@
 ghost use Rattle.std.specs.Prelude.{◌≡◌, ◌+ℤ◌, if◌then◌else◌, Some, None};
 ghost use Rattle.sheet.specs.Checks.{answer};
 ghost use Rattle.sheet.specs.Counted.{in_range};
-ghost use Rattle.step.specs.Faults.{noticeOfStep};
-ghost use Rattle.step.specs.Laying.{fieldChecks, end_in, afterField};
-ghost use Rattle.step.specs.Told.{toldRest};
+ghost use Rattle.step.specs.Faults.{notice_of_step};
+ghost use Rattle.step.specs.Laying.{field_checks, end_in, after_field};
+ghost use Rattle.step.specs.Told.{told_rest};
 
 use crate::faults::{At, StepFault};
 use sheet::COORDINATE_BOUND;
@@ -16,7 +16,7 @@ pub(crate) fn read_field(
     start: i16,
     at: At,
 ) -> Result<(i16, &[u8]), StepFault>
-    ensures { toldRest noticeOfStep result ≡ answer (fieldChecks at stands start bytes.now) (end_in stands start bytes.now, afterField stands bytes.now) }
+    ensures { told_rest notice_of_step result ≡ answer (field_checks at stands start bytes.now) (end_in stands start bytes.now, after_field stands bytes.now) }
 {
     if !stands {
         return Ok((start, bytes));

@@ -1,6 +1,6 @@
 // Two frames of one sheet: how they differ, and the step between them.
 ghost use Rattle.std.specs.Prelude.{◌≡◌, ◌≤◌, length, take};
-ghost use Rattle.step.specs.Frames.{sameFace, firstOther, differenceOf, towardOf, endingAt, tally_of, movingIn};
+ghost use Rattle.step.specs.Frames.{same_face, first_other, difference_of, toward_of, ending_at, tally_of, moving_in};
 
 use crate::writing::{map_of, moves};
 use sheet::{Draft, Face, Point};
@@ -20,7 +20,7 @@ pub fn compare_frames(
     end: &Draft,
     end_faces: &[Face],
 ) -> Option<Difference>
-    ensures { result ≡ differenceOf start.now start_faces.now end.now end_faces.now }
+    ensures { result ≡ difference_of start.now start_faces.now end.now end_faces.now }
 {
     if start.points() != end.points() {
         return Some(Difference::Points(start.points(), end.points()));
@@ -46,7 +46,7 @@ fn front(faces: &[Face], count: u16) -> &[Face]
 /// The first row in which two tables differ.
 fn first_other(faces: &[Face], others: &[Face]) -> Option<Difference>
     requires { length faces.now ≤ 65535 }
-    ensures { result ≡ firstOther 0 faces.now others.now }
+    ensures { result ≡ first_other 0 faces.now others.now }
 {
     let count = faces.len().min(others.len());
     for i in 0..count {
@@ -58,14 +58,14 @@ fn first_other(faces: &[Face], others: &[Face]) -> Option<Difference>
 }
 
 fn same_face(face: Face, other: Face) -> bool
-    ensures { result ≡ sameFace face other }
+    ensures { result ≡ same_face face other }
 {
     face.a == other.a && face.b == other.b && face.c == other.c
 }
 
 /// Gives each point the end at which the same row of another frame starts.
 pub fn end_at(points: &mut [Point], frame: &[Point])
-    ensures { points.new ≡ endingAt points.old frame.now }
+    ensures { points.new ≡ ending_at points.old frame.now }
 {
     let count = points.len().min(frame.len());
     for i in 0..count {
@@ -75,7 +75,7 @@ pub fn end_at(points: &mut [Point], frame: &[Point])
 
 /// A point that ends where another starts.
 fn toward(point: Point, other: Point) -> Point
-    ensures { result ≡ towardOf point other }
+    ensures { result ≡ toward_of point other }
 {
     let start = point.start;
     let end = other.start;
@@ -84,7 +84,7 @@ fn toward(point: Point, other: Point) -> Point
 
 /// How many of the draft's points move.
 pub fn moving(draft: &Draft, points: &[Point]) -> usize
-    ensures { result ≡ movingIn (take draft.now.points points.now) }
+    ensures { result ≡ moving_in (take draft.now.points points.now) }
 {
     let count = points.len().min(draft.points() as usize);
     let rows = &points[0..count];

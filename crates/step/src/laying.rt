@@ -1,9 +1,9 @@
 // Lays a record onto a table: a first pass finds the first fault, or that there is none; a second writes the rows.
 ghost use Rattle.std.specs.Prelude.{◌≡◌, ◌<◌, ◌≤◌, true, List, length, take, is_ok, if◌then◌else◌, None, OnOk, slice_set};
-ghost use Rattle.sheet.specs.Checks.{firstFit, answer, told};
+ghost use Rattle.sheet.specs.Checks.{first_fit, answer, told};
 ghost use Rattle.sheet.specs.Sheet.{overlaid};
-ghost use Rattle.step.specs.Faults.{noticeOfStep};
-ghost use Rattle.step.specs.Laying.{rowsChecks, laid, layChecks, done};
+ghost use Rattle.step.specs.Faults.{notice_of_step};
+ghost use Rattle.step.specs.Laying.{rows_checks, laid, lay_checks, done};
 ghost use Rattle.step.specs.Steps.{Step};
 ghost use Rattle.sheet.specs.declared.rows.Point.{Point};
 
@@ -15,7 +15,7 @@ use sheet::{Draft, Point};
 ///
 /// Accepted is just what is the record of these rows with some ends in range (`only`), and then the rows have these ends (`back`).
 pub fn lay(draft: &Draft, bytes: &[u8], points: &mut [Point]) -> Result<(), StepFault>
-    ensures answer { told noticeOfStep result ≡ answer (layChecks draft.now.points points.old bytes.now) done }
+    ensures answer { told notice_of_step result ≡ answer (lay_checks draft.now.points points.old bytes.now) done }
     ensures points { points.new ≡ (if is_ok result then overlaid (laid (take draft.now.points points.old) bytes.now) points.old else points.old) }
     ensures only { OnOk result (Step (take draft.now.points points.old) bytes.now (take draft.now.points points.new)) }
     ensures back { (qs : List Point) → draft.now.points ≤ length points.old → Step (take draft.now.points points.old) bytes.now qs → (is_ok result ≡ true) × (take draft.now.points points.new ≡ qs) }
@@ -30,7 +30,7 @@ pub fn lay(draft: &Draft, bytes: &[u8], points: &mut [Point]) -> Result<(), Step
 /// Lays a record onto all rows of a table.
 fn lay_rows(bytes: &[u8], rows: &mut [Point]) -> Result<(), StepFault>
     requires { length rows.old ≤ 65535 }
-    ensures answer { told noticeOfStep result ≡ answer (rowsChecks 0 rows.old bytes.now) done }
+    ensures answer { told notice_of_step result ≡ answer (rows_checks 0 rows.old bytes.now) done }
     ensures rows { rows.new ≡ (if is_ok result then laid rows.old bytes.now else rows.old) }
 {
     check_rows(bytes, rows)?;
@@ -41,7 +41,7 @@ fn lay_rows(bytes: &[u8], rows: &mut [Point]) -> Result<(), StepFault>
 /// The first fault of a record, for these rows.
 fn check_rows(bytes: &[u8], rows: &[Point]) -> Result<(), StepFault>
     requires { length rows.now ≤ 65535 }
-    ensures { told noticeOfStep result ≡ answer (rowsChecks 0 rows.now bytes.now) done }
+    ensures { told notice_of_step result ≡ answer (rows_checks 0 rows.now bytes.now) done }
 {
     let mut rest = bytes;
     for i in 0..rows.len() {
@@ -57,7 +57,7 @@ fn check_rows(bytes: &[u8], rows: &[Point]) -> Result<(), StepFault>
 /// Writes the ends that a record gives, which has no fault.
 fn write_rows(bytes: &[u8], rows: &mut [Point])
     requires few { length rows.old ≤ 65535 }
-    requires good { firstFit (rowsChecks 0 rows.old bytes.now) ≡ None }
+    requires good { first_fit (rows_checks 0 rows.old bytes.now) ≡ None }
     ensures { rows.new ≡ laid rows.old bytes.now }
 {
     let mut rest = bytes;

@@ -1,9 +1,9 @@
 // What a record says of one point.
 ghost use Rattle.std.specs.Prelude.{◌≡◌, ◌<◌};
 ghost use Rattle.sheet.specs.Checks.{answer};
-ghost use Rattle.step.specs.Faults.{noticeOfStep};
-ghost use Rattle.step.specs.Laying.{bitStands, pointChecks, end_of, afterPoint};
-ghost use Rattle.step.specs.Told.{toldRest};
+ghost use Rattle.step.specs.Faults.{notice_of_step};
+ghost use Rattle.step.specs.Laying.{bit_stands, point_checks, end_of, after_point};
+ghost use Rattle.step.specs.Told.{told_rest};
 
 use crate::faults::{At, StepFault};
 use crate::fields::read_field;
@@ -15,7 +15,7 @@ pub(crate) fn read_point(
     start: Coords,
     point: u32,
 ) -> Result<(Coords, &[u8]), StepFault>
-    ensures { toldRest noticeOfStep result ≡ answer (pointChecks point start bytes.now) (end_of start bytes.now, afterPoint bytes.now) }
+    ensures { told_rest notice_of_step result ≡ answer (point_checks point start bytes.now) (end_of start bytes.now, after_point bytes.now) }
 {
     let [map, fields @ ..] = bytes else {
         return Err(StepFault::EndsEarly(At { point, field: 0 }));
@@ -32,7 +32,7 @@ pub(crate) fn read_point(
 /// Whether the bit of weight `bit` stands in a map.
 fn stands(map: u8, bit: u8) -> bool
     requires { 0 < bit }
-    ensures { result ≡ bitStands map bit }
+    ensures { result ≡ bit_stands map bit }
 {
     map / bit % 2 != 0
 }

@@ -2,27 +2,27 @@
 ghost use Rattle.std.specs.Prelude.{◌≡◌, ◌+◌, ◌<◌, ◌≤◌, true, length, take, ◌-ℤ◌, is_ok, IfOk, if◌then◌else◌};
 ghost use Rattle.sheet.specs.Checks.{answer, told};
 ghost use Rattle.sheet.specs.Counted.{in_range};
-ghost use Rattle.sheet.specs.Sheet.{overlaid, pointLimit};
-ghost use Rattle.step.specs.Faults.{noticeOfWriter};
-ghost use Rattle.step.specs.Limit.{Longest, recordLimit};
-ghost use Rattle.step.specs.Record.{move_of, moves_of, bit_of, mapOf, field_of, movesRecord, pointRecord, recordOf};
-ghost use Rattle.step.specs.Steps.{Step, asCounted};
-ghost use Rattle.step.specs.Writing.{writeChecks, pasted};
+ghost use Rattle.sheet.specs.Sheet.{overlaid, point_limit};
+ghost use Rattle.step.specs.Faults.{notice_of_writer};
+ghost use Rattle.step.specs.Limit.{Longest, record_limit};
+ghost use Rattle.step.specs.Record.{move_of, moves_of, bit_of, map_byte, field_of, moves_record, point_record, record_of};
+ghost use Rattle.step.specs.Steps.{Step, as_counted};
+ghost use Rattle.step.specs.Writing.{write_checks, pasted};
 
 use crate::faults::WriterFault;
 use sheet::{Coords, Draft, POINT_LIMIT, Point, held};
 
 /// The length of the longest record of a sheet.
 pub fn record_limit() -> usize
-    ensures value { result ≡ recordLimit }
-    ensures longest { Longest pointLimit result }
+    ensures value { result ≡ record_limit }
+    ensures longest { Longest point_limit result }
 {
     full_record()
 }
 
 /// A map and three fields for each point that a sheet has place for.
 fn full_record() -> usize
-    ensures { result ≡ recordLimit }
+    ensures { result ≡ record_limit }
 {
     7 * POINT_LIMIT as usize
 }
@@ -31,9 +31,9 @@ fn full_record() -> usize
 ///
 /// What is written is a record of these rows, by which their ends come back as they count (`back`).
 pub fn write(draft: &Draft, points: &[Point], out: &mut [u8]) -> Result<usize, WriterFault>
-    ensures answer { told noticeOfWriter result ≡ answer (writeChecks draft.now.points points.now (length out.old)) (length (recordOf (take draft.now.points points.now))) }
-    ensures out { out.new ≡ (if is_ok result then overlaid (recordOf (take draft.now.points points.now)) out.old else out.old) }
-    ensures back { IfOk result (λ n. Step (take draft.now.points points.now) (take n out.new) (asCounted (take draft.now.points points.now))) }
+    ensures answer { told notice_of_writer result ≡ answer (write_checks draft.now.points points.now (length out.old)) (length (record_of (take draft.now.points points.now))) }
+    ensures out { out.new ≡ (if is_ok result then overlaid (record_of (take draft.now.points points.now)) out.old else out.old) }
+    ensures back { IfOk result (λ n. Step (take draft.now.points points.now) (take n out.new) (as_counted (take draft.now.points points.now))) }
 {
     let count = draft.points() as usize;
     if points.len() < count {
@@ -49,7 +49,7 @@ pub fn write(draft: &Draft, points: &[Point], out: &mut [u8]) -> Result<usize, W
 /// How many bytes the record of these rows has.
 fn record_len(rows: &[Point]) -> usize
     requires { length rows.now ≤ 65535 }
-    ensures { result ≡ length (recordOf rows.now) }
+    ensures { result ≡ length (record_of rows.now) }
 {
     let mut n = 0usize;
     for row in rows {
@@ -59,14 +59,14 @@ fn record_len(rows: &[Point]) -> usize
 }
 
 fn point_len(point: Point) -> usize
-    ensures value { result ≡ length (pointRecord point) }
+    ensures value { result ≡ length (point_record point) }
     ensures bound { result ≤ 7 }
 {
     moves_len(moves(point))
 }
 
 fn moves_len(moves: Coords) -> usize
-    ensures value { result ≡ length (movesRecord moves) }
+    ensures value { result ≡ length (moves_record moves) }
     ensures bound { result ≤ 7 }
 {
     1 + field_len(moves.x) + field_len(moves.y) + field_len(moves.z)
@@ -106,9 +106,9 @@ fn apart(start: i16, end: i16) -> i16
 
 /// Puts the record of these rows into the front of `out`, and answers its length.
 fn put_rows(rows: &[Point], out: &mut [u8]) -> usize
-    requires { length (recordOf rows.now) ≤ length out.old }
-    ensures len { result ≡ length (recordOf rows.now) }
-    ensures out { out.new ≡ overlaid (recordOf rows.now) out.old }
+    requires { length (record_of rows.now) ≤ length out.old }
+    ensures len { result ≡ length (record_of rows.now) }
+    ensures out { out.new ≡ overlaid (record_of rows.now) out.old }
 {
     let mut at = 0usize;
     for row in rows {
@@ -119,18 +119,18 @@ fn put_rows(rows: &[Point], out: &mut [u8]) -> usize
 
 /// Puts what the record says of a point into `out` at `at`, and answers where it ends.
 fn put_point(out: &mut [u8], at: usize, point: Point) -> usize
-    requires { at + length (pointRecord point) ≤ length out.old }
-    ensures next { result ≡ at + length (pointRecord point) }
-    ensures after { out.new ≡ pasted out.old at (pointRecord point) }
+    requires { at + length (point_record point) ≤ length out.old }
+    ensures next { result ≡ at + length (point_record point) }
+    ensures after { out.new ≡ pasted out.old at (point_record point) }
 {
     let moves = moves(point);
     put_moves(out, at, moves)
 }
 
 fn put_moves(out: &mut [u8], at: usize, moves: Coords) -> usize
-    requires { at + length (movesRecord moves) ≤ length out.old }
-    ensures next { result ≡ at + length (movesRecord moves) }
-    ensures after { out.new ≡ pasted out.old at (movesRecord moves) }
+    requires { at + length (moves_record moves) ≤ length out.old }
+    ensures next { result ≡ at + length (moves_record moves) }
+    ensures after { out.new ≡ pasted out.old at (moves_record moves) }
 {
     let Coords { x, y, z } = moves;
     let map = [map_of(moves)];
@@ -142,7 +142,7 @@ fn put_moves(out: &mut [u8], at: usize, moves: Coords) -> usize
 
 /// The map byte: a bit for each axis on which a point moves.
 pub(crate) fn map_of(moves: Coords) -> u8
-    ensures { result ≡ mapOf moves }
+    ensures { result ≡ map_byte moves }
 {
     bit(moves.x, 1) + bit(moves.y, 2) + bit(moves.z, 4)
 }

@@ -3,21 +3,21 @@ use Rattle.std.proofs.lemmas.Result.{IfOk-from_err}
 use Rattle.record.proofs.Fronts.{from-text}
 use Rattle.record.proofs.read_frame.Goals as goal
 
-pub returns-in-err-faces : goal.returns-in-err-faces
-returns-in-err-faces c = IfOk-from_err c.from-residual-in-err-faces.result _ c.from-residual-in-err-faces.ensures.0
+pub returns-in_err-faces : goal.returns-in_err-faces
+returns-in_err-faces c = IfOk-from_err c.from-residual-in_err-faces.result _ c.from-residual-in_err-faces.ensures.0
 
 pub returns-in-Ok : goal.returns-in-Ok
 returns-in-Ok c =
     let h = c.in-Ok.ensures in
-    from-text c.as-slice.result.now _ _ _ _ c.in-Ok.draft _ c.read-sheet.new.points _ _ c.read-sheet.new.faces _
-    (omega (arith, c.as-mut-slice.ensures.len, c.in-ok-points.ensures.len))
-    (omega (arith, c.as-mut-slice-2.ensures.len, c.in-ok-faces.ensures.len))
+    from-text c.as_slice.result.now _ _ _ _ c.in-Ok.draft _ c.read_sheet.new.points _ _ c.read_sheet.new.faces _
+    (omega (arith, c.as_mut_slice.ensures.len, c.in_ok-points.ensures.len))
+    (omega (arith, c.as_mut_slice-2.ensures.len, c.in_ok-faces.ensures.len))
     h.answer
-    h.points (omega (arith, c.read-sheet.auto.points, c.as-mut-slice.ensures.len))
-    h.faces (omega (arith, c.read-sheet.auto.faces, c.as-mut-slice-2.ensures.len))
+    h.points (omega (arith, c.read_sheet.auto.points, c.as_mut_slice.ensures.len))
+    h.faces (omega (arith, c.read_sheet.auto.faces, c.as_mut_slice-2.ensures.len))
 
-pub returns-in-err-println : goal.returns-in-err-println
-returns-in-err-println c = IfOk-from_err c.from-residual-in-err-println.result _ c.from-residual-in-err-println.ensures.0
+pub returns-in_err-println : goal.returns-in_err-println
+returns-in_err-println c = IfOk-from_err c.from-residual-in_err-println.result _ c.from-residual-in_err-println.ensures.0
 
-pub returns-in-err-eprintln : goal.returns-in-err-eprintln
-returns-in-err-eprintln c = IfOk-from_err c.from-residual-in-err-eprintln.result _ c.from-residual-in-err-eprintln.ensures.0
+pub returns-in_err-eprintln : goal.returns-in_err-eprintln
+returns-in_err-eprintln c = IfOk-from_err c.from-residual-in_err-eprintln.result _ c.from-residual-in_err-eprintln.ensures.0

@@ -14,9 +14,9 @@ returns-then-depth-eq0 g t c =
 
 pub returns-then-not-struck : goal.returns-then-not-struck
 returns-then-not-struck g t c =
-    passed_first (g.F.Filter.struck c.args.filter.now) c.args.depth c.args.test.now.shape _ (omega arith) c.first-half-first.ensures c.if-not-struck.ensures
+    passed_first (g.F.Filter.struck c.args.filter.now) c.args.depth c.args.test.now.shape _ (omega arith) c.first_half-first.ensures c.if-not-struck.ensures
 
 pub returns : goal.returns
 returns g t c =
-    last-decides (g.F.Filter.struck c.args.filter.now) c.args.depth c.args.test.now.shape _ _ _ (omega arith) c.first-half-first.ensures c.last-half-last.ensures
+    last-decides (g.F.Filter.struck c.args.filter.now) c.args.depth c.args.test.now.shape _ _ _ (omega arith) c.first_half-first.ensures c.last_half-last.ensures
     c.if-not-struck.ensures c.struck-2.ensures

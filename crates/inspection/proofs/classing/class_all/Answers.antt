@@ -1,5 +1,5 @@
 use Rattle.std.proofs.Common.{take, refl, ap, ◌∙◌, arith}
-use Rattle.inspection.specs.Classes.{struckTest}
+use Rattle.inspection.specs.Classes.{struck_test}
 use Rattle.inspection.specs.Lists.{table, entries}
 use Rattle.inspection.proofs.Going.{each_at, at_first, on, listed-all, counted-all}
 use Rattle.inspection.proofs.classing.class_all.Goals as goal
@@ -8,7 +8,7 @@ pub loop-i-init : goal.loop-i-init
 loop-i-init g c =
     let s = c.args.sheet in
     let shared = g.E.TestName.shared s.faces.now in
-    let struck = struckTest (g.F.Filter.struck c.args.filter.now) c.args.depth (g.E.TestName.shape s.points.now s.faces.now) in
+    let struck = struck_test (g.F.Filter.struck c.args.filter.now) c.args.depth (g.E.TestName.shape s.points.now s.faces.now) in
     let same = g.E.Entry.same in
     let old = entries c.args.old.now in
     let tests = c.args.tests.now in
@@ -16,8 +16,8 @@ loop-i-init g c =
     let new = c.args.new.now in
     (at_first shared struck same old tests before (entries new) new.len (ap (λ n. take n (table new)) c.requires.empty) c.requires.empty, refl, refl)
 
-pub take-one-requires : goal.take-one-requires
-take-one-requires g c =
+pub take_one-requires : goal.take_one-requires
+take_one-requires g c =
     let s = c.args.sheet in
     let few = c.loop-i.invariant.0.few in
     let all = c.loop-i.invariant.0.all in
@@ -33,12 +33,12 @@ pub loop-i-preserved : goal.loop-i-preserved
 loop-i-preserved g c =
     let s = c.args.sheet in
     let shared = g.E.TestName.shared s.faces.now in
-    let struck = struckTest (g.F.Filter.struck c.args.filter.now) c.args.depth (g.E.TestName.shape s.points.now s.faces.now) in
+    let struck = struck_test (g.F.Filter.struck c.args.filter.now) c.args.depth (g.E.TestName.shape s.points.now s.faces.now) in
     let same = g.E.Entry.same in
     let old = entries c.args.old.now in
     let tests = c.args.tests.now in
     let before = c.args.tally.now in
-    let e = c.take-one.ensures in (
+    let e = c.take_one.ensures in (
       on shared struck same old tests before c.loop-i.i (entries c.loop-i.new) _ c.loop-i.tally _ c.loop-i.new.len _ c.index-tests-i.result
           c.loop-i-test.true c.index-tests-i.is e.len e.listed e.tally c.loop-i.invariant.0,
       e.room ∙ c.loop-i.invariant.1,
@@ -49,7 +49,7 @@ pub returns : goal.returns
 returns g c =
     let s = c.args.sheet in
     let shared = g.E.TestName.shared s.faces.now in
-    let struck = struckTest (g.F.Filter.struck c.args.filter.now) c.args.depth (g.E.TestName.shape s.points.now s.faces.now) in
+    let struck = struck_test (g.F.Filter.struck c.args.filter.now) c.args.depth (g.E.TestName.shape s.points.now s.faces.now) in
     let same = g.E.Entry.same in
     let old = entries c.args.old.now in
     let tests = c.args.tests.now in

@@ -8,4 +8,4 @@ unreachable-requires g c =
     let s = c.args.sheet in
     no_way c.test-test.result.shape.scale c.args.depth _
     (ap (λ (t : Shape). t.scale) c.test-test.ensures ∙ g.met.E.TestName.unscaled s.points.now s.faces.now c.args.e)
-    c.requires.depth c.in-default.ensures.answer
+    c.requires.depth c.in_default.ensures.answer

@@ -1,13 +1,13 @@
 use Rattle.std.proofs.Common.{◌≡◌, true, false, get_or, sym, ◌∙◌, arith, rules}
 use Rattle.std.specs.Char.{is_ascii_digit}
-use Rattle.sheet.specs.Numerals.{allDigits}
+use Rattle.sheet.specs.Numerals.{all_digits}
 use Rattle.sheet.proofs.Digits.{value-more, value-all, digits_more, digits-stop, digits-all, small-more, small_all, magnitude-fault, magnitude-good, is-magnitude, no-magnitude}
 use Rattle.sheet.proofs.fields.magnitude.Goals as goal
 
-pub returns-then-not-is-ascii-digit : goal.returns-then-not-is-ascii-digit
-returns-then-not-is-ascii-digit c =
+pub returns-then-not-is_ascii_digit : goal.returns-then-not-is_ascii_digit
+returns-then-not-is_ascii_digit c =
     let t : is_ascii_digit (get_or c.args.digits.now c.loop-d.d-index 0) ≡ false = search rules in
-    let e : allDigits c.args.digits.now ≡ false = sym c.loop-d.invariant.2 ∙ digits-stop c.args.digits.now c.loop-d.d-index (omega arith) t in
+    let e : all_digits c.args.digits.now ≡ false = sym c.loop-d.invariant.2 ∙ digits-stop c.args.digits.now c.loop-d.d-index (omega arith) t in
     record { value = magnitude-fault c.args.at c.args.digits.now _ (no-magnitude c.args.digits.now e); small = tt }
 
 pub loop-d-preserved : goal.loop-d-preserved

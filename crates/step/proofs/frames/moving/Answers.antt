@@ -1,5 +1,5 @@
 use Rattle.std.proofs.Common.{◌≡◌, ◌-◌, take, ap, ◌∙◌, arith}
-use Rattle.step.specs.Frames.{movingIn}
+use Rattle.step.specs.Frames.{moving_in}
 use Rattle.step.proofs.FrameLaws.{front-is, moving-more, moving-all}
 use Rattle.step.proofs.frames.moving.Goals as goal
 
@@ -13,5 +13,5 @@ returns c =
     let rows = take (c.min-count.result - 0) c.args.points.now in
     let z = moving-all rows c.loop-row.row-index c.loop-row-test.false in
     let e = front-is c.points.result c.min-count.result c.args.points.now c.min-count.ensures in
-    let s : c.loop-row.n ≡ movingIn rows = omega arith in
-    s ∙ ap movingIn e ∙ ap (λ n. movingIn (take n c.args.points.now)) c.points.ensures
+    let s : c.loop-row.n ≡ moving_in rows = omega arith in
+    s ∙ ap moving_in e ∙ ap (λ n. moving_in (take n c.args.points.now)) c.points.ensures

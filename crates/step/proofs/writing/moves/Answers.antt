@@ -12,5 +12,5 @@ returns c =
     let ex : SFits w16 c.args.point.end.x = search rules in
     let ey : SFits w16 c.args.point.end.y = search rules in
     let ez : SFits w16 c.args.point.end.z = search rules in
-    same_end c.move-of-x.result c.move-of-y.result c.move-of-z.result (moves_of c.args.point) (search rules) (search rules) (search rules)
-    (simp to_z-of_z at c.move-of-x.ensures) (simp to_z-of_z at c.move-of-y.ensures) (simp to_z-of_z at c.move-of-z.ensures)
+    same_end c.move_of-x.result c.move_of-y.result c.move_of-z.result (moves_of c.args.point) (search rules) (search rules) (search rules)
+    (simp to_z-of_z at c.move_of-x.ensures) (simp to_z-of_z at c.move_of-y.ensures) (simp to_z-of_z at c.move_of-z.ensures)

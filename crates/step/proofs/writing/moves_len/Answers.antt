@@ -9,6 +9,6 @@ returns c =
     let fy : SFits w16 c.args.moves.y = search rules in
     let fz : SFits w16 c.args.moves.z = search rules in
     record {
-      value = point-length c.args.moves c.field-len.result c.field-len-2.result c.field-len-3.result (simp to_z-of_z at c.field-len.ensures.value) (simp to_z-of_z at c.field-len-2.ensures.value) (simp to_z-of_z at c.field-len-3.ensures.value);
-      bound = omega (arith, c.field-len.ensures.bound, c.field-len-2.ensures.bound, c.field-len-3.ensures.bound);
+      value = point-length c.args.moves c.field_len.result c.field_len-2.result c.field_len-3.result (simp to_z-of_z at c.field_len.ensures.value) (simp to_z-of_z at c.field_len-2.ensures.value) (simp to_z-of_z at c.field_len-3.ensures.value);
+      bound = omega (arith, c.field_len.ensures.bound, c.field_len-2.ensures.bound, c.field_len-3.ensures.bound);
     }
