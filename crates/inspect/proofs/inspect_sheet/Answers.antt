@@ -4,7 +4,7 @@ use Rattle.inspect.proofs.Texts.{from-text}
 use Rattle.inspect.proofs.inspect_sheet.Goals as goal
 
 pub returns-in_err-println : goal.returns-in_err-println
-returns-in_err-println c = IfOk-from_err c.from-residual-in_err-println.result _ c.from-residual-in_err-println.ensures.0
+returns-in_err-println c = IfOk-from_err c.from_residual-in_err-println.result _ c.from_residual-in_err-println.ensures.0
 
 pub returns-in-Ok : goal.returns-in-Ok
 returns-in-Ok c =
@@ -12,4 +12,4 @@ returns-in-Ok c =
     from-text c.as_slice.result.now _ c.in-Ok.draft c.args.points.now c.read_sheet.new.points (omega (arith, c.as_mut_slice.ensures.len, c.in_ok-faces.ensures.len)) h.answer h.points
 
 pub returns-in_err-refused : goal.returns-in_err-refused
-returns-in_err-refused c = IfOk-from_err c.from-residual-in_err-refused.result _ c.from-residual-in_err-refused.ensures.0
+returns-in_err-refused c = IfOk-from_err c.from_residual-in_err-refused.result _ c.from_residual-in_err-refused.ensures.0

@@ -4,7 +4,7 @@ use Rattle.record.proofs.Fronts.{from-text}
 use Rattle.record.proofs.read_frame.Goals as goal
 
 pub returns-in_err-faces : goal.returns-in_err-faces
-returns-in_err-faces c = IfOk-from_err c.from-residual-in_err-faces.result _ c.from-residual-in_err-faces.ensures.0
+returns-in_err-faces c = IfOk-from_err c.from_residual-in_err-faces.result _ c.from_residual-in_err-faces.ensures.0
 
 pub returns-in-Ok : goal.returns-in-Ok
 returns-in-Ok c =
@@ -17,7 +17,7 @@ returns-in-Ok c =
     h.faces (omega (arith, c.read_sheet.auto.faces, c.as_mut_slice-2.ensures.len))
 
 pub returns-in_err-println : goal.returns-in_err-println
-returns-in_err-println c = IfOk-from_err c.from-residual-in_err-println.result _ c.from-residual-in_err-println.ensures.0
+returns-in_err-println c = IfOk-from_err c.from_residual-in_err-println.result _ c.from_residual-in_err-println.ensures.0
 
 pub returns-in_err-eprintln : goal.returns-in_err-eprintln
-returns-in_err-eprintln c = IfOk-from_err c.from-residual-in_err-eprintln.result _ c.from-residual-in_err-eprintln.ensures.0
+returns-in_err-eprintln c = IfOk-from_err c.from_residual-in_err-eprintln.result _ c.from_residual-in_err-eprintln.ensures.0

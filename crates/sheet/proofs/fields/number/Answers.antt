@@ -6,7 +6,7 @@ use Rattle.sheet.proofs.fields.number.Goals as goal
 
 pub returns-in_err-n : goal.returns-in_err-n
 returns-in_err-n c =
-    let p = err_from_is_err_and c.from-residual.result c.from-residual.ensures.1 in
+    let p = err_from_is_err_and c.from_residual.result c.from_residual.ensures.1 in
     rw (p.1, p.2) (signed-fault c.args.at c.args.field.now _ _ c.split_sign-negative.ensures.digits c.in_err-n.ensures.value)
 
 pub returns : goal.returns

@@ -5,7 +5,7 @@ use Rattle.sheet.proofs.reader.admit.Goals as goal
 
 pub returns-in_err-entry : goal.returns-in_err-entry
 returns-in_err-entry c =
-    let p = err_from_is_err_and c.from-residual.result c.from-residual.ensures.1 in
+    let p = err_from_is_err_and c.from_residual.result c.from_residual.ensures.1 in
     record {
       answer = rw (p.1, p.2) (content-fault c.args.room c.args.line.number c.args.above c.args.line.bytes.now _ c.in_err-entry.ensures);
       place = rw p.1 tt;

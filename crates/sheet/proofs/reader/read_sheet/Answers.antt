@@ -5,7 +5,7 @@ use Rattle.sheet.proofs.reader.read_sheet.Goals as goal
 
 pub returns-in_err-counts : goal.returns-in_err-counts
 returns-in_err-counts c =
-    let p = err_from_is_err_and c.from-residual.result c.from-residual.ensures.1 in
+    let p = err_from_is_err_and c.from_residual.result c.from_residual.ensures.1 in
     record {
       answer = rw (p.1, p.2) (text-fault c.args.text.now (length c.args.points.now) (length c.args.faces.now) _ _ _ (omega arith) c.min-point_places.ensures c.min-face_places.ensures c.in_err-counts.ensures);
       points = rw p.1 refl;

@@ -6,7 +6,7 @@ use Rattle.sheet.proofs.reader.survey.Goals as goal
 
 pub returns-in_err-entry : goal.returns-in_err-entry
 returns-in_err-entry c =
-    let p = err_from_is_err_and c.from-residual.result c.from-residual.ensures.1 in
+    let p = err_from_is_err_and c.from_residual.result c.from_residual.ensures.1 in
     let some = some-from (length c.loop-rest.rest.now) _ c.is_empty.ensures c.loop-rest-test.true in
     let cut = lines_are c.loop-rest.rest.now _ _ some c.split_line.ensures.bytes c.split_line.ensures.rest in
     rw (p.1, p.2) (survey-fault c.args.room c.loop-rest.number _ c.loop-rest.above _ _ _ _ cut c.split_line.ensures.number c.in_err-entry.ensures.answer ∙ c.loop-rest.invariant.0)

@@ -5,7 +5,7 @@ use Rattle.step.proofs.laying.check_rows.Goals as goal
 
 pub returns-in_err-next : goal.returns-in_err-next
 returns-in_err-next c =
-    let p = err_from_is_err_and c.from-residual.result c.from-residual.ensures.1 in
+    let p = err_from_is_err_and c.from_residual.result c.from_residual.ensures.1 in
     rw (p.1, p.2) (rows-fault c.args.rows.now c.loop-i.i _ _ c.loop-i.rest.now _ _ c.loop-i-test.true c.counted.ensures c.in_err-next.ensures ∙ c.loop-i.invariant)
 
 pub loop-i-preserved : goal.loop-i-preserved

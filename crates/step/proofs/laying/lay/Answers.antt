@@ -9,6 +9,6 @@ returns c =
     record {
       answer = a;
       points = t;
-      only = lay-only c.lay_rows.result c.args.draft.now.points c.args.points.now _ c.args.bytes.now (λ k. (c.type-inv.bytes k).fits) a t;
+      only = lay-only c.lay_rows.result c.args.draft.now.points c.args.points.now _ c.args.bytes.now (λ k. (c.type_inv.bytes k).fits) a t;
       back = λ qs h s. lay-back c.lay_rows.result c.args.draft.now.points c.args.points.now _ qs c.args.bytes.now a t h s;
     }

@@ -8,7 +8,7 @@ use Rattle.step.proofs.points.read_point.Goals as goal
 
 pub returns-in_err-x : goal.returns-in_err-x
 returns-in_err-x c =
-    let p = err_from_is_err_and c.from-residual.result c.from-residual.ensures.1 in
+    let p = err_from_is_err_and c.from_residual.result c.from_residual.ensures.1 in
     let l : 0 < length c.args.bytes.now = search rules in
     let m : map_in c.args.bytes.now ≤ 7 = search rules in
     let fx : SFits w16 c.args.start.x = search rules in
@@ -17,7 +17,7 @@ returns-in_err-x c =
 
 pub returns-in_err-y : goal.returns-in_err-y
 returns-in_err-y c =
-    let p = err_from_is_err_and c.from-residual-in_err-y.result c.from-residual-in_err-y.ensures.1 in
+    let p = err_from_is_err_and c.from_residual-in_err-y.result c.from_residual-in_err-y.ensures.1 in
     let l : 0 < length c.args.bytes.now = search rules in
     let m : map_in c.args.bytes.now ≤ 7 = search rules in
     let fx : SFits w16 c.args.start.x = search rules in
@@ -28,7 +28,7 @@ returns-in_err-y c =
 
 pub returns-in_err-z : goal.returns-in_err-z
 returns-in_err-z c =
-    let p = err_from_is_err_and c.from-residual-in_err-z.result c.from-residual-in_err-z.ensures.1 in
+    let p = err_from_is_err_and c.from_residual-in_err-z.result c.from_residual-in_err-z.ensures.1 in
     let l : 0 < length c.args.bytes.now = search rules in
     let m : map_in c.args.bytes.now ≤ 7 = search rules in
     let fx : SFits w16 c.args.start.x = search rules in

@@ -15,17 +15,17 @@ late-requires-3 c = let t = c.args.self.now.shape in let v = c.args.self.now.val
 pub late-requires-4 : goal.late-requires-4
 late-requires-4 c = let t = c.args.self.now.shape in let v = c.args.self.now.valid in at_most t.scale v.0 t.c v.4
 
-pub invariant-of-result : goal.invariant-of-result
-invariant-of-result c =
+pub invariant_of-result : goal.invariant_of-result
+invariant_of-result c =
     let t = c.args.self.now.shape in
     let v = valid-last t c.args.self.now.valid c.requires in
-    let k = t.scale + 1 in (
-      (
+    let k = t.scale + 1 in
+    record {
+      valid = (
         v.0,
         same-inside k _ _ c.late.ensures v.1,
         same-inside k _ _ c.late-2.ensures v.2,
         same-inside k _ _ c.late-3.ensures v.3,
         same-inside k _ _ c.late-4.ensures v.4,
-      ),
-      tt,
-    )
+      );
+    }

@@ -4,7 +4,7 @@ use Rattle.filters.specs.Bounds.{all_in_reach}
 use Rattle.filters.proofs.Reached.{valid}
 use Rattle.filters.proofs.tests.Test.new.Goals as goal
 
-pub invariant-of-result : goal.invariant-of-result
-invariant-of-result c =
+pub invariant_of-result : goal.invariant_of-result
+invariant_of-result c =
     let t = c.args.shape in
-    (valid t (leb-true t.scale 6 (sym c.if-not-has_scale.ensures)) (ap (λ B. all_in_reach B t) (sym c.reach.ensures) ∙ sym c.if-not-all_in_reach.ensures), tt)
+    record { valid = valid t (leb-true t.scale 6 (sym c.if-not-has_scale.ensures)) (ap (λ B. all_in_reach B t) (sym c.reach.ensures) ∙ sym c.if-not-all_in_reach.ensures) }
