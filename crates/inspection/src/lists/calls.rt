@@ -45,7 +45,7 @@ impl<'a, E: Entry> List<'a, E> {
 
     /// Whether an entry is the same as this one.
     pub fn holds(&self, e: &E) -> bool
-        ensures { result ≡ has same e.now (entries self.now) }
+        ensures { result ≡ has E.same e.now (entries self.now) }
     {
         let places = &*self.places;
         for i in 0..self.len {
