@@ -71,5 +71,5 @@ fn inspect_step(
 /// Prints a fault's line, and gives the error that ends the run.
 fn refused(rt: &HostRuntime, notice: Notice) -> anyhow::Result<anyhow::Error> {
     println!(rt; "{notice}")?;
-    Ok("a fault was told".into())
+    Ok(anyhow!("a fault was told"))
 }
