@@ -1,10 +1,6 @@
 use Rattle.std.proofs.Common.{arith}
-use Rattle.std.proofs.lemmas.Result.{IfOk-from_err}
 use Rattle.record.proofs.Fronts.{from-text}
 use Rattle.record.proofs.read_frame.Goals as goal
-
-pub returns-in_err-faces : goal.returns-in_err-faces
-returns-in_err-faces c = IfOk-from_err c.from_residual-in_err-faces.result _ c.from_residual-in_err-faces.ensures.0
 
 pub returns-in-Ok : goal.returns-in-Ok
 returns-in-Ok c =
@@ -15,9 +11,3 @@ returns-in-Ok c =
     h.answer
     h.points (omega (arith, c.read_sheet.auto.points, c.as_mut_slice.ensures.len))
     h.faces (omega (arith, c.read_sheet.auto.faces, c.as_mut_slice-2.ensures.len))
-
-pub returns-in_err-println : goal.returns-in_err-println
-returns-in_err-println c = IfOk-from_err c.from_residual-in_err-println.result _ c.from_residual-in_err-println.ensures.0
-
-pub returns-in_err-eprintln : goal.returns-in_err-eprintln
-returns-in_err-eprintln c = IfOk-from_err c.from_residual-in_err-eprintln.result _ c.from_residual-in_err-eprintln.ensures.0
