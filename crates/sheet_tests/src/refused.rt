@@ -1,9 +1,8 @@
 // Texts with a fault: the line that tells it, and that both tables are as they were.
 use crate::tables::{check_marked, marked};
 use sheet::read_sheet;
-use std::alloc::Global;
+use std::alloc::{AllocError, Global};
 use std::process::Abort;
-use std::test::Fail;
 
 const CASES: [(&str, &str); 67] = [
     ("v x 1 1", "fault 1 field 1 1"),
@@ -91,21 +90,22 @@ const CASES: [(&str, &str); 67] = [
 ];
 
 #[test]
-fn faults_are_told_and_tables_kept(rt: HostRuntime) -> Result<(), Fail> {
+fn faults_are_told_and_tables_kept(rt: HostRuntime) -> Result<(), AllocError> {
     for (text, told) in CASES.iter() {
-        refuses(&rt, rt.alloc(), text, told).note(*text)?;
+        refuses(&rt, rt.alloc(), text, told)?;
     }
     Ok(())
 }
 
-fn refuses(rt: &impl Abort, heap: Global, text: &str, told: &str) -> Result<(), Fail> {
+fn refuses(rt: &impl Abort, heap: Global, text: &str, told: &str) -> Result<(), AllocError> {
     let mut tables = marked();
     match read_sheet(text.as_bytes(), &mut tables.points, &mut tables.faces) {
-        Ok(_) => return Err(Fail::new("the text is accepted")),
+        Ok(_) => panic!(rt; "accepted: {text}"),
         Err(fault) => {
             let line = fault.notice().to_string(heap)?;
-            assert!(rt; line.as_str() == told, "{}", line);
+            assert_eq!(rt; line.as_str(), told, "{text}");
         }
     }
-    check_marked(rt, &tables, 0, 0)
+    check_marked(rt, &tables, 0, 0, text);
+    Ok(())
 }

@@ -1,7 +1,6 @@
 // Small tables of marked rows, to see which rows a call writes.
 use sheet::{Coords, Face, Point};
 use std::process::Abort;
-use std::test::Fail;
 
 pub(crate) const MARKED_POINT: Point = Point {
     start: Coords { x: 7, y: 8, z: 9 },
@@ -28,22 +27,22 @@ pub(crate) fn marked() -> Tables {
     }
 }
 
-/// The rows from `points` and `faces` on are still marked.
+/// Checks that after `text` the rows from `points` and `faces` on are still marked.
 pub(crate) fn check_marked(
     rt: &impl Abort,
     tables: &Tables,
     points: usize,
     faces: usize,
-) -> Result<(), Fail> {
+    text: &str,
+) {
     for (i, point) in tables.points.iter().enumerate() {
         if i >= points {
-            assert_eq!(rt; *point, MARKED_POINT, "a point past the sheet's");
+            assert_eq!(rt; *point, MARKED_POINT, "a point past the sheet's: {text}");
         }
     }
     for (i, face) in tables.faces.iter().enumerate() {
         if i >= faces {
-            assert_eq!(rt; *face, MARKED_FACE, "a face past the sheet's");
+            assert_eq!(rt; *face, MARKED_FACE, "a face past the sheet's: {text}");
         }
     }
-    Ok(())
 }

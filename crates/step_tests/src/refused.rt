@@ -37,7 +37,7 @@ const CASES: [(&[u8], &str); 25] = [
 #[test]
 fn faults_are_told_and_the_table_kept(rt: HostRuntime) -> Result<(), Fail> {
     for (bytes, told) in CASES.iter() {
-        refuses(&rt, rt.alloc(), bytes, told).note(*told)?;
+        refuses(&rt, rt.alloc(), bytes, told)?;
     }
     Ok(())
 }
@@ -50,15 +50,15 @@ fn refuses(rt: &impl Abort, heap: Global, bytes: &[u8], told: &str) -> Result<()
     };
     let mut points = [row, row, MARKED];
     match lay(&draft, bytes, &mut points) {
-        Ok(()) => return Err(Fail::new("the record is accepted")),
+        Ok(()) => panic!(rt; "accepted: {told}"),
         Err(fault) => {
             let line = fault.notice().to_string(heap)?;
-            assert!(rt; line.as_str() == told, "{}", line);
+            assert_eq!(rt; line.as_str(), told);
         }
     }
-    assert_eq!(rt; points[0], row);
-    assert_eq!(rt; points[1], row);
-    assert_eq!(rt; points[2], MARKED);
+    assert_eq!(rt; points[0], row, "{told}");
+    assert_eq!(rt; points[1], row, "{told}");
+    assert_eq!(rt; points[2], MARKED, "{told}");
     Ok(())
 }
 
