@@ -1,4 +1,6 @@
 //! Reading the files of a fold plan.
+#![tactic(auto)]
+
 ghost use Rattle.std.specs.Prelude.{◌≡◌, ◌≤◌, take, IfOk, vec_len};
 
 use std::fs::File;

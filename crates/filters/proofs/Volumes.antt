@@ -1,5 +1,5 @@
 -- The vectors of Plane and the size of its control values.
-use Rattle.std.proofs.Common.{◌≡◌, ℕ, ◌+◌, ◌*◌, ◌^◌, ◌≤◌, ℤ, pos, ◌+ℤ◌, ◌*ℤ◌, nat_abs, sym, ap, ◌∙◌, subst, arith, w64, to_z, of_z}
+use Rattle.std.proofs.Common.{◌≡◌, ℕ, ◌*◌, ◌^◌, ◌≤◌, ℤ, pos, ◌+ℤ◌, ◌*ℤ◌, nat_abs, sym, ap, ◌∙◌, subst, arith, w64, to_z, of_z}
 use Rattle.motion.specs.declared.shapes.V3.{V3}
 use Rattle.motion.specs.declared.shapes.Shape.{Shape}
 use Rattle.motion.specs.declared.shapes.Controls.{Controls}

@@ -1,4 +1,5 @@
 //! Filters: what a filter is and owes, three that are delivered, any two in a row, and striking at a depth.
+#![tactic(auto)]
 
 mod boxes;
 mod depths;

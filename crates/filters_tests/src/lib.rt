@@ -1,4 +1,5 @@
 //! Tests of the crate `filters` on examples.
+#![tactic(auto)]
 
 #[cfg(test)]
 mod bounds;

@@ -1,4 +1,6 @@
 // inspect [FOLDER]: says what the sheet of a folder holds and how it moves, or names the first fault.
+#![tactic(auto)]
+
 ghost use Rattle.std.specs.Prelude.{IfOk, OnOk};
 ghost use Rattle.inspect.specs.Plans.{FromText, FromRecord};
 

@@ -1,5 +1,5 @@
 -- Bernstein's form of the determinant on the way, and the bound from it.
-use Rattle.std.proofs.Common.{◌≡◌, ℕ, zero, suc, ◌+◌, ◌-◌, ◌*◌, ◌^◌, ◌≤◌, T, ltb, [], ◌∷◌, ℤ, pos, negsuc, ◌+ℤ◌, ◌*ℤ◌, neg_ℤ, nat_abs, ◌≤ℤ◌, ◌<ℤ◌, ap, ◌∙◌, subst, inl, inr, pow-suc, arith, ltb→lt}
+use Rattle.std.proofs.Common.{◌≡◌, ℕ, zero, suc, ◌+◌, ◌*◌, ◌^◌, ◌≤◌, T, ltb, [], ◌∷◌, ℤ, pos, negsuc, ◌+ℤ◌, ◌*ℤ◌, neg_ℤ, nat_abs, ◌≤ℤ◌, ◌<ℤ◌, ap, ◌∙◌, subst, inl, inr, pow-suc, arith, ltb→lt}
 use native.Mathlib.Nat.{pow-zero}
 use borrow.Author.Differences.{ints}
 use Rattle.motion.proofs.Determinants.{Triple, det, along, det_of, G0, G1, G2, G3, Above, One-sign}

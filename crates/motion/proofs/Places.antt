@@ -1,5 +1,5 @@
 -- Where a moving point is on its way: r of r + p parts are left, p are past.
-use Rattle.std.proofs.Common.{◌≡◌, ℕ, ◌+◌, ◌-◌, ◌*◌, ◌^◌, ◌≤◌, [], ◌∷◌, ℤ, pos, ◌+ℤ◌, ◌-ℤ◌, ◌*ℤ◌, nat_abs, ap, mul-le-mul_left, arith}
+use Rattle.std.proofs.Common.{◌≡◌, ℕ, ◌+◌, ◌*◌, ◌^◌, ◌≤◌, [], ◌∷◌, ℤ, pos, ◌+ℤ◌, ◌-ℤ◌, ◌*ℤ◌, nat_abs, ap, mul-le-mul_left, arith}
 use borrow.Author.Differences.{ints}
 use Rattle.motion.specs.declared.shapes.V3.{V3}
 use Rattle.motion.specs.declared.shapes.Moving.{Moving}

@@ -8,7 +8,7 @@ use Rattle.motion.specs.declared.shapes.Moving.{Moving}
 use Rattle.motion.specs.declared.shapes.Shape.{Shape}
 use Rattle.motion.specs.Vectors.{◌-ᵛ◌, ◌·ᵛ◌, dot, cross}
 use Rattle.motion.specs.Features.{firsts, seconds, first, second}
-use Rattle.motion.specs.Laws.{Valid, Far, Apart, Lawful, Weights, at, weighted, total, difference, half}
+use Rattle.motion.specs.Laws.{Valid, Far, Apart, Lawful, Weights, weighted, total, difference, half}
 use Rattle.motion.specs.Plane.{plane_set}
 use Rattle.motion.proofs.Determinants.{det_of, seen, at_start, at_end, Above, Below, One-sign, sum}
 use Rattle.motion.proofs.Sizes.{abs-mul, abs_neg, far-by-normal}

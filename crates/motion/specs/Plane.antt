@@ -1,5 +1,5 @@
 -- Plane: the four values of the non-coplanarity test have one sign.
-use Rattle.std.specs.Prelude.{Bool, ◌&&◌, ◌||◌, ℤ, pos, ◌+ℤ◌, ◌*ℤ◌, int_lt}
+use Rattle.std.specs.Prelude.{Bool, ◌&&◌, ◌||◌, pos, ◌+ℤ◌, ◌*ℤ◌, int_lt}
 use Rattle.motion.specs.declared.shapes.V3.{V3}
 use Rattle.motion.specs.declared.shapes.Moving.{Moving}
 use Rattle.motion.specs.declared.shapes.Shape.{Shape}

@@ -1,4 +1,6 @@
 //! An example for those who make a filter of their own: it shows two laws about its set, and then goes where ours go.
+#![tactic(auto)]
+
 mod lent;
 mod stacked;
 

@@ -1,4 +1,6 @@
 // record START.obj END.obj STEP.bin: makes the record of the step between two frames of one sheet.
+#![tactic(auto)]
+
 ghost use Rattle.std.specs.Prelude.{◌≡◌, not, take, is_some, is_ok, IfOk};
 ghost use Rattle.step.specs.Frames.{difference_of};
 ghost use Rattle.step.specs.Record.{record_of};

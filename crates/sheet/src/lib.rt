@@ -1,4 +1,5 @@
 //! A sheet of film: its points and faces, and the text that it is read from.
+#![tactic(auto)]
 
 mod counts;
 mod cuts;

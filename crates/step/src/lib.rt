@@ -1,4 +1,5 @@
 //! The record of a step: the moves of a sheet's points, laid onto a table or written from one.
+#![tactic(auto)]
 
 mod faults;
 mod fields;

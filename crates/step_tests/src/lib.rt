@@ -1,4 +1,5 @@
 //! Tests of the crate `step` on examples: in a crate of their own, since a crate with tests is proved twice.
+#![tactic(auto)]
 
 #[cfg(test)]
 mod drafts;

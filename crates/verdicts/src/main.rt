@@ -1,4 +1,6 @@
 //! Strikes seeded pseudo-random tests with every filter at every depth, and prints how many each struck.
+#![tactic(auto)]
+
 mod draws;
 mod samples;
 

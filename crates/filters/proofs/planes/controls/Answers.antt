@@ -1,7 +1,6 @@
 use Rattle.std.proofs.Common.{◌∙◌}
 use Rattle.motion.specs.Vectors.{◌+ᵛ◌, ◌-ᵛ◌}
 use Rattle.motion.specs.Plane.{combined, controls}
-use Rattle.filters.proofs.Exact.{value}
 use Rattle.filters.proofs.Reaches.{same-reach, wider, a0, a1, b0, b1, c0, c1}
 use Rattle.filters.proofs.Volumes.{d0-reach, d1-reach, n0-reach, n1-reach, turned-reach, small}
 use Rattle.filters.proofs.planes.controls.Goals as goal
