@@ -9,13 +9,22 @@ use files::load;
 use sheet::{Draft, FACE_LIMIT, Face, Notice, POINT_LIMIT, Point, TEXT_LIMIT, read_sheet};
 use std::env;
 use std::path::Path;
+use std::process::ExitCode;
 use step::{lay, moving, record_limit};
 
-fn main(rt: HostRuntime) -> anyhow::Result<()> {
-    let mut args = env::args(&rt)?.skip(1);
+/// What stops the run is told where it is found, so that only the status is left to say.
+fn main(rt: HostRuntime) -> ExitCode {
+    match run(&rt) {
+        Ok(()) => ExitCode::SUCCESS,
+        Err(_) => ExitCode::FAILURE,
+    }
+}
+
+fn run(rt: &HostRuntime) -> anyhow::Result<()> {
+    let mut args = env::args(rt)?.skip(1);
     match (args.next(), args.next()) {
-        (None, _) => inspect(&rt, Path::new(".")),
-        (Some(folder), None) => inspect(&rt, Path::new(folder.as_str())),
+        (None, _) => inspect(rt, Path::new(".")),
+        (Some(folder), None) => inspect(rt, Path::new(folder.as_str())),
         (Some(_), Some(_)) => {
             eprintln!(rt; "usage: inspect [FOLDER]")?;
             Err(anyhow!("more than one folder"))

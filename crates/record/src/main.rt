@@ -10,6 +10,7 @@ use anyhow::anyhow;
 use files::load;
 use sheet::{Draft, FACE_LIMIT, Face, POINT_LIMIT, Point, TEXT_LIMIT, read_sheet};
 use std::path::Path;
+use std::process::ExitCode;
 use std::{env, fs};
 use step::{Difference, compare_frames, end_at, lay, moving, record_limit, write};
 
@@ -21,8 +22,16 @@ struct Frame {
     faces: Vec<Face>,
 }
 
-fn main(rt: HostRuntime) -> anyhow::Result<()> {
-    let mut args = env::args(&rt)?.skip(1);
+/// What stops the run is told where it is found, so that only the status is left to say.
+fn main(rt: HostRuntime) -> ExitCode {
+    match run(&rt) {
+        Ok(()) => ExitCode::SUCCESS,
+        Err(_) => ExitCode::FAILURE,
+    }
+}
+
+fn run(rt: &HostRuntime) -> anyhow::Result<()> {
+    let mut args = env::args(rt)?.skip(1);
     let (Some(start), Some(end), Some(step), None) = (
         args.next(),
         args.next(),
@@ -32,10 +41,10 @@ fn main(rt: HostRuntime) -> anyhow::Result<()> {
         eprintln!(rt; "usage: record START.obj END.obj STEP.bin")?;
         return Err(anyhow!("not three files"));
     };
-    let start = read_frame(&rt, Path::new(start.as_str()))?;
-    let end = read_frame(&rt, Path::new(end.as_str()))?;
-    same_sheet(&rt, &start, &end)?;
-    record(&rt, start, &end, Path::new(step.as_str()))
+    let start = read_frame(rt, Path::new(start.as_str()))?;
+    let end = read_frame(rt, Path::new(end.as_str()))?;
+    same_sheet(rt, &start, &end)?;
+    record(rt, start, &end, Path::new(step.as_str()))
 }
 
 /// Reads a frame. Where it has a fault, its name is told on standard error beside the fault's line.
