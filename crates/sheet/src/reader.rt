@@ -98,7 +98,7 @@ fn admit(line: Line<'_>, above: Counts, room: Counts) -> Result<Entry, SheetFaul
 
 /// Writes the row of `entry` into its table, after those of `above`.
 fn store(entry: Entry, above: Counts, points: &mut [Point], faces: &mut [Face])
-    requires { has_place (record { points = length points.now; faces = length faces.old }) above entry ≡ true }
+    requires { has_place (record { points = length points.old; faces = length faces.old }) above entry ≡ true }
     ensures points { points.new ≡ with_point above entry points.old }
     ensures faces { faces.new ≡ with_face above entry faces.old }
 {
