@@ -17,6 +17,6 @@ pub use boxes::BoxFilter;
 pub use depths::struck_at;
 pub use filter::Filter;
 pub use planes::{PlaneFilter, controls};
-pub use rows::{DELIVERED, Delivered, Row};
+pub use rows::{DELIVERED, Delivered, Row, delivered_filter};
 pub use slabs::SlabFilter;
 pub use tests::Test;

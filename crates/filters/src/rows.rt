@@ -1,4 +1,5 @@
 // Two filters in a row, and the row that is delivered.
+ghost use Rattle.std.specs.Prelude.{◌≡◌};
 ghost use Rattle.motion.specs.Rows.{row, delivered};
 ghost use Rattle.motion.proofs.RowLaws.{row_lawful};
 
@@ -35,3 +36,10 @@ pub const DELIVERED: Delivered = Row {
     },
     second: PlaneFilter,
 };
+
+/// The delivered filter: it strikes exactly what Box, Slab or Plane strikes.
+pub fn delivered_filter() -> Delivered
+    ensures { ⟦<Delivered as Filter>⟧.struck result ≡ delivered }
+{
+    DELIVERED
+}

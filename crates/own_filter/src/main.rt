@@ -4,7 +4,7 @@
 mod lent;
 mod stacked;
 
-use filters::{DELIVERED, Filter, Row, Test, struck_at};
+use filters::{Filter, Row, Test, delivered_filter, struck_at};
 use lent::Lent;
 use motion::{Moving, Shape, V3};
 use stacked::Stacked;
@@ -47,7 +47,7 @@ fn tell(rt: &HostRuntime, what: &str, shape: Shape) -> io::Result<()> {
     let Some(test) = Test::new(shape) else {
         return println!(rt; "{what}: no test");
     };
-    let ours = DELIVERED;
+    let ours = delivered_filter();
     let both = Row {
         first: Stacked,
         second: Lent { filter: &ours },
