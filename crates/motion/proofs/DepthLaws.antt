@@ -1,10 +1,10 @@
 -- Struck at a depth, for every set that keeps the laws.
-use Rattle.std.proofs.Common.{◌≡◌, ℕ, zero, suc, ◌+◌, ◌-◌, ◌*◌, ◌^◌, ◌≤◌, Bool, true, false, ◌&&◌, sym, refl, ap, ◌∙◌, subst, pow-suc, arith}
+use Rattle.std.proofs.Common.{◌≡◌, ℕ, zero, suc, ◌+◌, ◌-◌, ◌^◌, ◌≤◌, Bool, true, false, ◌&&◌, sym, refl, ap, ◌∙◌, subst, arith}
 use Rattle.std.proofs.lemmas.Bool.{and_parts, and_from}
 use Rattle.motion.specs.declared.shapes.Shape.{Shape}
 use Rattle.motion.specs.Laws.{Valid, Apart, Lawful, subinterval, half}
 use Rattle.motion.specs.Depths.{every, struck_at, Struck}
-use Rattle.motion.proofs.Subintervals.{nested-subinterval, whole, valid-first, valid-last}
+use Rattle.motion.proofs.Subintervals.{twice, in_first, in_last, whole, valid-first, valid-last}
 use Rattle.motion.proofs.HalvesApart.{halves-apart}
 
 and_assoc : (a b c : Bool) → ((a && b) && c) ≡ (a && (b && c))
@@ -35,26 +35,11 @@ module _ (set : Shape → Bool) where
   pub struck-step : (d : ℕ) (t : Shape) → struck_at set (suc d) t ≡ (struck_at set d (half 0 t) && struck_at set d (half 1 t))
   unfolding struck_at
   struck-step d t =
-      ap (every part) twice ∙ every_more part (2 ^ d) (2 ^ d)
-      ∙ (λ i. every (λ j. set (first_of j i)) (2 ^ d) && every (λ j. set (last_of j i)) (2 ^ d))
+      ap (every part) (twice d) ∙ every_more part (2 ^ d) (2 ^ d)
+      ∙ (λ i. every (λ j. set (in_first t d j i)) (2 ^ d) && every (λ j. set (in_last t d j i)) (2 ^ d))
     where
       part : ℕ → Bool
       part j = set (subinterval (suc d) j t)
-
-      twice : 2 ^ suc d ≡ 2 ^ d + 2 ^ d
-      twice = omega (arith, pow-suc 2 d)
-
-      first_of : (j : ℕ) → subinterval (suc d) j t ≡ subinterval d j (half 0 t)
-      first_of j = ap (λ k. subinterval (suc d) k t) same ∙ nested-subinterval t d 0 j
-        where
-          same : j ≡ 0 * 2 ^ d + j
-          same = omega arith
-
-      last_of : (j : ℕ) → subinterval (suc d) (2 ^ d + j) t ≡ subinterval d j (half 1 t)
-      last_of j = ap (λ k. subinterval (suc d) k t) same ∙ nested-subinterval t d 1 j
-        where
-          same : 2 ^ d + j ≡ 1 * 2 ^ d + j
-          same = omega arith
 
 module _ (set : Shape → Bool) (l : Lawful set) where
   -- struck whole is struck in every part

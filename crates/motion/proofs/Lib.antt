@@ -21,4 +21,5 @@ pub mod BoxLaws
 pub mod Subintervals
 pub mod HalvesApart
 pub mod DepthLaws
+pub mod Windows
 pub mod Worked

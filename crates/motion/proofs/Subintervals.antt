@@ -64,6 +64,22 @@ nested-subinterval t d i j =
     finer : (k d : ℕ) → k + suc d ≡ k + 1 + d
     finer k d = omega arith
 
+pub twice : (d : ℕ) → 2 ^ suc d ≡ 2 ^ d + 2 ^ d
+twice d = omega (arith, pow-suc 2 d)
+
+-- the first 2^d subintervals are those of the first half, the others those of the last
+pub in_first : (t : Shape) (d j : ℕ) → subinterval (suc d) j t ≡ subinterval d j (half 0 t)
+in_first t d j = ap (λ k. subinterval (suc d) k t) same ∙ nested-subinterval t d 0 j
+  where
+    same : j ≡ 0 * 2 ^ d + j
+    same = omega arith
+
+pub in_last : (t : Shape) (d j : ℕ) → subinterval (suc d) (2 ^ d + j) t ≡ subinterval d j (half 1 t)
+in_last t d j = ap (λ k. subinterval (suc d) k t) same ∙ nested-subinterval t d 1 j
+  where
+    same : 2 ^ d + j ≡ 1 * 2 ^ d + j
+    same = omega arith
+
 -- ---- the whole is its only subinterval of depth 0
 whole-at : (s e : ℤ) → pos 1 *ℤ s +ℤ pos 0 *ℤ e ≡ s
 whole-at s e = ring (s ∷ e ∷ []) (con (pos 1) ⊗ var 0 ⊕ con (pos 0) ⊗ var 1) (var 0) tt

@@ -1,5 +1,5 @@
 -- Seven tests worked out by hand, as one statement about the rules.
-use Rattle.std.specs.Prelude.{◌≡◌, ℕ, Bool, true, false, ℤ, pos, neg_ℤ}
+use Rattle.std.specs.Prelude.{◌≡◌, ℕ, Bool, true, false, Some, ℤ, pos, neg_ℤ}
 use Rattle.motion.specs.declared.shapes.V3.{V3}
 use Rattle.motion.specs.declared.shapes.Kind.TheVariants.{Vf, Ee}
 use Rattle.motion.specs.declared.shapes.Moving.{Moving}
@@ -11,7 +11,7 @@ use Rattle.motion.specs.Box.{box_set}
 use Rattle.motion.specs.Slab.{slab_set}
 use Rattle.motion.specs.Plane.{controls, plane_set}
 use Rattle.motion.specs.Rows.{delivered}
-use Rattle.motion.specs.Depths.{struck_at, Window}
+use Rattle.motion.specs.Depths.{struck_at, Window, window_at}
 
 infix 5 ◌to◌
 abbrev ◌to◌ : V3 → V3 → Moving
@@ -83,6 +83,10 @@ pub record Cases : Type 0 where
   pub window-1 : Window delivered 1 crossing 0 1
   pub window-2 : Window delivered 2 crossing 1 2
   pub window-6 : Window delivered 6 crossing 31 32
+  pub found-0 : window_at delivered 0 crossing ≡ Some (0, 0)
+  pub found-1 : window_at delivered 1 crossing ≡ Some (0, 1)
+  pub found-2 : window_at delivered 2 crossing ≡ Some (1, 2)
+  pub found-6 : window_at delivered 6 crossing ≡ Some (31, 32)
   pub touches : Apart crossing → ⊥
   pub values-3 : controls landing ≡ values (pos 48) (pos 32) (pos 16) (pos 0)
   pub answers-3 : Answers landing false false false

@@ -1,5 +1,6 @@
 -- Struck at a depth, and the window.
-use Rattle.std.specs.Prelude.{◌≡◌, ℕ, zero, suc, ◌+◌, ◌-◌, ◌^◌, ◌<◌, ◌≤◌, Bool, true, false, ◌&&◌}
+use Rattle.std.specs.Prelude.{◌≡◌, ◌↔◌, ℕ, zero, suc, ◌+◌, ◌-◌, ◌^◌, ◌<◌, ◌≤◌, Bool, true, false, ◌&&◌, if◌then◌else◌, Option, Some, None}
+use Rattle.std.specs.Option.{option_or, option_zip}
 use Rattle.motion.specs.declared.shapes.Shape.{Shape}
 use Rattle.motion.specs.Laws.{subinterval, Apart}
 
@@ -24,3 +25,29 @@ pub record Window (set : Shape → Bool) (d : ℕ) (t : Shape) (i j : ℕ) : Typ
   pub before : every (λ n. set (subinterval d n t)) i ≡ true
   pub last : set (subinterval d j t) ≡ false
   pub beyond : every (λ n. set (subinterval d (suc j + n) t)) (2 ^ d - suc j) ≡ true
+
+-- the least number below n at which f does not hold
+abbrev pub first_lacking : (ℕ → Bool) → ℕ → Option ℕ
+first_lacking f zero = None
+first_lacking f (suc n) = option_or (first_lacking f n) (if f n then None else Some n)
+
+-- the greatest
+abbrev pub last_lacking : (ℕ → Bool) → ℕ → Option ℕ
+last_lacking f zero = None
+last_lacking f (suc n) = if f n then last_lacking f n else Some n
+
+-- the first subinterval of depth d that the set lacks, and the last
+unfoldable pub first_passed : (Shape → Bool) → ℕ → Shape → Option ℕ
+first_passed set d t = first_lacking (λ j. set (subinterval d j t)) (2 ^ d)
+
+unfoldable pub last_passed : (Shape → Bool) → ℕ → Shape → Option ℕ
+last_passed set d t = last_lacking (λ j. set (subinterval d j t)) (2 ^ d)
+
+-- the window at depth d: both of them, or none where the set has every subinterval
+unfoldable pub window_at : (Shape → Bool) → ℕ → Shape → Option (ℕ × ℕ)
+window_at set d t = option_zip (first_passed set d t) (last_passed set d t)
+
+-- whatever the set: the window is what the record above says, and there is none exactly where the test is struck
+pub record Windowed (set : Shape → Bool) (d : ℕ) (t : Shape) : Type 0 where
+  pub some : (i j : ℕ) → window_at set d t ≡ Some (i, j) → Window set d t i j
+  pub none : (window_at set d t ≡ None) ↔ (struck_at set d t ≡ true)

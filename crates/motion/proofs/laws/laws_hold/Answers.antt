@@ -3,7 +3,8 @@ use Rattle.motion.proofs.BoxLaws.{box-lawful}
 use Rattle.motion.proofs.SlabLaws.{slab-lawful}
 use Rattle.motion.proofs.PlaneLaws.{plane-lawful}
 use Rattle.motion.proofs.Directions.{exactly}
+use Rattle.motion.proofs.Windows.{windowed}
 use Rattle.motion.proofs.laws.laws_hold.Goals as goal
 
 pub returns : goal.returns
-returns c = record { count = refl; boxes = box-lawful; slabs = slab-lawful; planes = plane-lawful; directions = exactly }
+returns c = record { count = refl; boxes = box-lawful; slabs = slab-lawful; planes = plane-lawful; directions = exactly; windows = windowed }
