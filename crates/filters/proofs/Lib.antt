@@ -8,3 +8,4 @@ pub mod Turns
 pub mod Inside
 pub mod Volumes
 pub mod Reached
+pub mod Passes

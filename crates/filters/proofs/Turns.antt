@@ -25,8 +25,8 @@ module _ (set : Shape → Bool) where
       tb ∙ ap (struck_at set (d - 1)) eb ∙ ap (λ x. x && struck_at set (d - 1) (half 1 t)) (ta ∙ ap (struck_at set (d - 1)) ea) ∙ sym (halves-step d t h)
 
 -- ---- the answer where there is room for the depth
-pub answered : (n : ℕ) (r s : Bool) → n ≤ 6 → r ≡ s → Some r ≡ cond (leb n 6) (Some s) None
-answered n r s h e = ap (λ b. Some b) e ∙ sym (ap (λ b. cond b (Some s) None) (le-leb n 6 h))
+pub answered : {A : Type 0} (n : ℕ) (r s : A) → n ≤ 6 → r ≡ s → Some r ≡ cond (leb n 6) (Some s) None
+answered n r s h e = ap (λ a. Some a) e ∙ sym (ap (λ b. cond b (Some s) None) (le-leb n 6 h))
 
 abbrev held : Option Bool → Bool
 held None = false

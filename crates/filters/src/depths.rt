@@ -19,7 +19,7 @@ pub fn struck_at<F: Filter>(filter: &F, test: &Test, depth: u8) -> Option<bool>
 }
 
 /// Whether the subintervals of this depth are tests.
-fn has_room(scale: u8, depth: u8) -> bool
+pub(crate) fn has_room(scale: u8, depth: u8) -> bool
     ensures { result ≡ nat_le (scale + depth) 6 }
 {
     depth <= 6 && scale <= 6 - depth

@@ -1,4 +1,4 @@
-//! Filters: what a filter is and owes, three that are delivered, any two in a row, and striking at a depth.
+//! Filters: what a filter is and owes, three that are delivered, any two in a row, striking at a depth, and the window.
 #![tactic(auto)]
 
 mod boxes;
@@ -12,6 +12,7 @@ mod slabs;
 mod spans;
 mod tests;
 mod vectors;
+mod windows;
 
 pub use boxes::BoxFilter;
 pub use depths::struck_at;
@@ -20,3 +21,4 @@ pub use planes::{PlaneFilter, controls};
 pub use rows::{DELIVERED, Delivered, Row, delivered_filter};
 pub use slabs::SlabFilter;
 pub use tests::Test;
+pub use windows::window_at;

@@ -1,6 +1,8 @@
 // The seven tests that are worked out by hand.
 use crate::shapes::{at, moving, over_t, resting, test_of};
-use filters::{BoxFilter, DELIVERED, Filter, PlaneFilter, SlabFilter, controls, struck_at};
+use filters::{
+    BoxFilter, DELIVERED, Filter, PlaneFilter, SlabFilter, controls, struck_at, window_at,
+};
 use motion::Shape;
 use std::process::Abort;
 use std::test::Fail;
@@ -46,6 +48,19 @@ fn over_a_resting_face(rt: HostRuntime) -> Result<(), Fail> {
     judged(&rt, landing, [48, 32, 16, 0], [false, false, false])?;
     let beside = over_t(resting(at(9, 9, 0)));
     judged(&rt, beside, [0, 0, 0, 0], [true, true, false])
+}
+
+#[test]
+fn windows(rt: HostRuntime) -> Result<(), Fail> {
+    let crossing = test_of(over_t(moving(at(1, 1, 1), at(1, 1, -1))))?;
+    assert!(rt; window_at(&DELIVERED, &crossing, 0) == Some(Some((0, 0))));
+    assert!(rt; window_at(&DELIVERED, &crossing, 1) == Some(Some((0, 1))));
+    assert!(rt; window_at(&DELIVERED, &crossing, 2) == Some(Some((1, 2))));
+    assert!(rt; window_at(&DELIVERED, &crossing, 6) == Some(Some((31, 32))));
+    assert!(rt; window_at(&DELIVERED, &crossing, 7) == None);
+    let leaving = test_of(over_t(moving(at(1, 1, 1), at(1, 1, 3))))?;
+    assert!(rt; window_at(&DELIVERED, &leaving, 6) == Some(None));
+    Ok(())
 }
 
 #[test]

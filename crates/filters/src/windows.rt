@@ -1,0 +1,87 @@
+// The window at a depth.
+ghost use Rattle.std.specs.Prelude.{◌≡◌, ◌+◌, ◌^◌, ◌<◌, ◌≤◌, leb, if◌then◌else◌, Some, None, IfSome};
+ghost use Rattle.std.specs.Option.{option_map, option_zip};
+ghost use Rattle.motion.specs.Depths.{first_passed, last_passed, window_at};
+
+use crate::depths::has_room;
+use crate::filter::Filter;
+use crate::tests::Test;
+
+/// The first and the last of the 2^depth subintervals that the filter passes, or none where it strikes each; no answer where the scale and the
+/// depth pass 6 together.
+pub fn window_at<F: Filter>(filter: &F, test: &Test, depth: u8) -> Option<Option<(u8, u8)>>
+    ensures { result ≡ (if leb (test.now.shape.scale + depth) 6 then Some (window_at (F.Filter.struck filter.now) depth test.now.shape) else None) }
+{
+    if !has_room(test.shape.scale, depth) {
+        return None;
+    }
+    Some(window(filter, test, depth))
+}
+
+#[tactic(auto, unfolding(motion::specs::Depths::window_at))]
+fn window<F: Filter>(filter: &F, test: &Test, depth: u8) -> Option<(u8, u8)>
+    requires { test.now.shape.scale + depth ≤ 6 }
+    ensures { result ≡ window_at (F.Filter.struck filter.now) depth test.now.shape }
+{
+    both(
+        first_passed(filter, test, depth),
+        last_passed(filter, test, depth),
+    )
+}
+
+/// What is struck whole is struck in every part, so the whole is asked first, and its halves only where it passed.
+#[tactic(auto, using(crate::proofs::Passes::first_step))]
+fn first_passed<F: Filter>(filter: &F, test: &Test, depth: u8) -> Option<u8>
+    requires { test.now.shape.scale + depth ≤ 6 }
+    ensures { result ≡ first_passed (F.Filter.struck filter.now) depth test.now.shape }
+{
+    if filter.strikes(test) {
+        return None;
+    }
+    if depth == 0 {
+        return Some(0);
+    }
+    let early = test.first_half();
+    if let Some(part) = first_passed(filter, &early, depth - 1) {
+        return Some(part);
+    }
+    let late = test.last_half();
+    of_last_half(first_passed(filter, &late, depth - 1), depth - 1)
+}
+
+/// The same from the end.
+#[tactic(auto, using(crate::proofs::Passes::last_step))]
+fn last_passed<F: Filter>(filter: &F, test: &Test, depth: u8) -> Option<u8>
+    requires { test.now.shape.scale + depth ≤ 6 }
+    ensures { result ≡ last_passed (F.Filter.struck filter.now) depth test.now.shape }
+{
+    if filter.strikes(test) {
+        return None;
+    }
+    if depth == 0 {
+        return Some(0);
+    }
+    let late = test.last_half();
+    if let Some(part) = of_last_half(last_passed(filter, &late, depth - 1), depth - 1) {
+        return Some(part);
+    }
+    let early = test.first_half();
+    last_passed(filter, &early, depth - 1)
+}
+
+/// The number in the whole of a subinterval of the last half, where each half has 2^depth.
+fn of_last_half(part: Option<u8>, depth: u8) -> Option<u8>
+    requires depth { depth ≤ 5 }
+    requires part { IfSome part (λ k. k < 2 ^ depth) }
+    ensures { result ≡ option_map (λ k. 2 ^ depth + k) part }
+{
+    let part = part?;
+    Some((1 << depth) + part)
+}
+
+/// Both numbers, or none.
+fn both(first: Option<u8>, last: Option<u8>) -> Option<(u8, u8)>
+    ensures { result ≡ option_zip first last }
+{
+    Some((first?, last?))
+}
