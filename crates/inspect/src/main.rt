@@ -1,16 +1,28 @@
-// inspect [FOLDER]: says what the sheet of a folder holds and how it moves, or names the first fault.
+// inspect [FOLDER]: inspects the fold plan in a folder, a sheet, its step and the pairs of faces to look at.
 #![tactic(auto)]
 
-ghost use Rattle.std.specs.Prelude.{IfOk, OnOk};
-ghost use Rattle.inspect.specs.Plans.{FromText, FromRecord};
-
 use anyhow::anyhow;
-use files::load;
-use sheet::{Draft, FACE_LIMIT, Face, Notice, POINT_LIMIT, Point, TEXT_LIMIT, read_sheet};
+use plans::inspect_folder;
 use std::env;
 use std::path::Path;
 use std::process::ExitCode;
-use step::{lay, moving, record_limit};
+
+const HELP: &str = "\
+usage: inspect [FOLDER]
+
+Inspects the fold plan in a folder, or in the current one:
+  sheet.obj   the sheet, as text: a line `v X Y Z` for each point, `f A B C` for each face
+  step.bin    the record of its step: how far each point moves (the program `record` makes it from two frames)
+  pairs.bin   the pairs of faces to inspect: two numbers of two bytes each, the lower byte first; faces count from 0
+
+It prints
+  fault NUMBER LAYER PLACE PLACE            for each pair that is refused, and what any other fault is, which ends the run
+  VF POINT FACE FIRST LAST                  a point and a face that may touch, from part FIRST of the step to part LAST, of four; `- -` for none
+  VF kept N struck N shared N repeated N    how many tests of a point against a face there were of each class
+  EE U V K L FIRST LAST                     the edges from U to V and from K to L may touch
+  EE kept N struck N shared N repeated N    how many tests of an edge against an edge there were of each class
+Whatever was offered, shares no point and is not printed stays apart for the whole step.
+";
 
 /// What stops the run is told where it is found, so that only the status is left to say.
 fn main(rt: HostRuntime) -> ExitCode {
@@ -23,8 +35,8 @@ fn main(rt: HostRuntime) -> ExitCode {
 fn run(rt: &HostRuntime) -> anyhow::Result<()> {
     let mut args = env::args(rt)?.skip(1);
     match (args.next(), args.next()) {
-        (None, _) => inspect(rt, Path::new(".")),
-        (Some(folder), None) => inspect(rt, Path::new(folder.as_str())),
+        (None, _) => inspect_folder(rt, Path::new(".")),
+        (Some(word), None) => help_or_inspect(rt, word.as_str()),
         (Some(_), Some(_)) => {
             eprintln!(rt; "usage: inspect [FOLDER]")?;
             Err(anyhow!("more than one folder"))
@@ -32,55 +44,10 @@ fn run(rt: &HostRuntime) -> anyhow::Result<()> {
     }
 }
 
-fn inspect(rt: &HostRuntime, folder: Path<'_>) -> anyhow::Result<()> {
-    let heap = rt.alloc();
-    let mut points = vec![in heap; Point::default(); POINT_LIMIT as usize]?;
-    let draft = inspect_sheet(rt, folder, points.as_mut_slice())?;
-    inspect_step(rt, folder, &draft, points.as_mut_slice())
-}
-
-/// Reads `sheet.obj`. One byte past the limit is enough to tell that a text is too long.
-fn inspect_sheet(rt: &HostRuntime, folder: Path<'_>, points: &mut [Point]) -> anyhow::Result<Draft>
-    ensures { IfOk result (λ draft. FromText draft points.old points.new) }
-{
-    let heap = rt.alloc();
-    let path = folder.join(heap, "sheet.obj")?;
-    let text = load(rt, path.as_path(), TEXT_LIMIT + 1)?;
-    let mut faces = vec![in heap; Face::default(); FACE_LIMIT as usize]?;
-    match read_sheet(text.as_slice(), points, faces.as_mut_slice()) {
-        Ok(draft) => {
-            println!(rt; "sheet {} points {} faces", draft.points(), draft.faces())?;
-            Ok(draft)
-        }
-        Err(fault) => Err(refused(rt, fault.notice())?),
+fn help_or_inspect(rt: &HostRuntime, word: &str) -> anyhow::Result<()> {
+    if word == "--help" {
+        print!(rt; "{HELP}")?;
+        return Ok(());
     }
-}
-
-/// Reads `step.bin` and lays it onto the points.
-fn inspect_step(
-    rt: &HostRuntime,
-    folder: Path<'_>,
-    draft: &Draft,
-    points: &mut [Point],
-) -> anyhow::Result<()>
-    ensures { OnOk result (FromRecord draft.now.points points.old points.new) }
-{
-    let path = folder.join(rt.alloc(), "step.bin")?;
-    let record = load(rt, path.as_path(), record_limit() + 1)?;
-    if let Err(fault) = lay(draft, record.as_slice(), points) {
-        return Err(refused(rt, fault.notice())?);
-    }
-    let moved = moving(draft, points);
-    println!(rt;
-        "step {} points, {moved} moved, {} bytes",
-        draft.points(),
-        record.len()
-    )?;
-    Ok(())
-}
-
-/// Prints a fault's line, and gives the error that ends the run.
-fn refused(rt: &HostRuntime, notice: Notice) -> anyhow::Result<anyhow::Error> {
-    println!(rt; "{notice}")?;
-    Ok(anyhow!("a fault was told"))
+    inspect_folder(rt, Path::new(word))
 }

@@ -5,7 +5,7 @@ use Rattle.std.proofs.lemmas.Bool.{le-leb, or_left, or_right, or_from, false≢t
 use Rattle.inspection.specs.declared.classes.Class.{Class}
 use Rattle.inspection.specs.declared.classes.Class.TheVariants.{Kept, Repeated}
 use Rattle.inspection.specs.Lists.{has}
-use Rattle.inspection.specs.Classes.{class_of, added}
+use Rattle.inspection.specs.Classes.{Judge, class_of, added}
 
 -- a test of scale 0 has room for every depth up to 6
 abbrev made : Option Bool → Bool
@@ -33,11 +33,11 @@ module _ {E : Type 0} (same : E → E → Bool) (e : E) where
   pub in-none : (xs ys : List E) → has same e xs ≡ false → has same e ys ≡ false → has same e (xs ++ ys) ≡ false
   in-none xs ys h k = has_join xs ys ∙ or_from (has same e xs) (has same e ys) h k
 
-module _ {E : Type 0} (shared struck : E → Bool) (same : E → E → Bool) (e : E) where
-  pub is-repeated : (xs : List E) → shared e ≡ false → struck e ≡ false → has same e xs ≡ true → Repeated ≡ class_of shared struck same xs e
+module _ {E : Type 0} (j : Judge E) (e : E) where
+  pub is-repeated : (xs : List E) → j.shared e ≡ false → j.struck e ≡ false → has j.same e xs ≡ true → Repeated ≡ class_of j xs e
   is-repeated xs h k l = rw (h, k, l) refl
 
-  pub is-kept : (xs : List E) → shared e ≡ false → struck e ≡ false → has same e xs ≡ false → Kept ≡ class_of shared struck same xs e
+  pub is-kept : (xs : List E) → j.shared e ≡ false → j.struck e ≡ false → has j.same e xs ≡ false → Kept ≡ class_of j xs e
   is-kept xs h k l = rw (h, k, l) refl
 
 -- ---- a kept test is added at the end

@@ -1,7 +1,13 @@
 -- A table that is filled behind its first entries, one by one.
-use Rattle.std.proofs.Common.{◌≡◌, ℕ, zero, suc, ◌+◌, ◌<◌, List, [], ◌∷◌, ◌++◌, length, get_or, take, drop, set, sym, refl, ap, ◌∙◌, subst, arith}
+use Rattle.std.proofs.Common.{◌≡◌, ℕ, zero, suc, ◌+◌, ◌<◌, ◌≤◌, List, [], ◌∷◌, ◌++◌, length, get_or, take, drop, set, sym, refl, ap, ◌∙◌, subst, arith}
 use Rattle.std.proofs.lemmas.List.{length-take-le}
-use Rattle.inspection.specs.Lists.{extended}
+use Rattle.std.proofs.lemmas.List.{append_assoc}
+use Rattle.std.proofs.Common.{length-append}
+use Rattle.inspection.specs.Lists.{Held, filled}
+
+-- a table after new entries were put behind the first n
+abbrev pub extended : {E : Type 0} → List E → ℕ → List E → List E
+extended t n new = take n t ++ (new ++ drop (n + length new) t)
 
 module _ {E : Type 0} where
   -- behind nothing
@@ -53,3 +59,16 @@ module _ {E : Type 0} where
   put-more t t' t'' xs n i e h p r a b =
       let l : length (take i xs) ≡ i = length-take-le i xs (omega arith) in
       b ∙ (λ j. set (a j) (n + sym l j) e) ∙ put-behind t n (take i xs) e (subst (λ (m : ℕ). n + m < length t) (sym l) r) ∙ ap (extended t n) (sym (taken xs i e h p))
+
+  pub is-filled : (t new : List E) (n : ℕ) (h : Held E) → n ≤ length t → h.table ≡ extended t n new → h.len ≡ n + length new
+      → h ≡ filled (take n t ++ new) (record { table = t; len = n })
+  is-filled t new n h k et el = same h.table h.len _ _ (et ∙ whole) (el ∙ sym l)
+    where
+      l : length (take n t ++ new) ≡ n + length new
+      l = length-append (take n t) new ∙ ap (λ (m : ℕ). m + length new) (length-take-le n t k)
+
+      whole : extended t n new ≡ (take n t ++ new) ++ drop (length (take n t ++ new)) t
+      whole = sym (append_assoc (take n t) new (drop (n + length new) t)) ∙ ap (λ (m : ℕ). (take n t ++ new) ++ drop m t) (sym l)
+
+      same : (a : List E) (m : ℕ) (b : List E) (n : ℕ) → a ≡ b → m ≡ n → ◌≡◌ {A = Held E} (record { table = a; len = m }) (record { table = b; len = n })
+      same a m b n p q = cc

@@ -8,7 +8,7 @@ use Rattle.sheet.specs.declared.rows.Point.{Point}
 use Rattle.motion.specs.declared.shapes.V3.{V3}
 use Rattle.motion.specs.declared.shapes.Moving.{Moving}
 use Rattle.motion.specs.Laws.{Within, InReach}
-use Rattle.inspection.specs.Rows.{place_of, moving_of}
+use Rattle.inspection.specs.Sheets.{place_of, moving_of}
 
 held-near : (z : ℤ) → nat_abs (held z) ≤ 4096
 held-near z = go (lt_z z least) (lt_z greatest z) refl refl

@@ -1,17 +1,12 @@
 -- The classes of tests, and their counts.
-use Rattle.std.specs.Prelude.{ℕ, ◌+◌, ◌-◌, ◌^◌, min, Bool, cond, List, [], ◌∷◌, ◌++◌}
+use Rattle.std.specs.Prelude.{ℕ, ◌+◌, Bool, cond, List, [], ◌∷◌, ◌++◌}
 use Rattle.motion.specs.declared.shapes.Shape.{Shape}
 use Rattle.motion.specs.Depths.{struck_at}
 use Rattle.inspection.specs.declared.classes.Class.{Class}
 use Rattle.inspection.specs.declared.classes.Class.TheVariants.{Kept, Struck, Shared, Repeated}
 use Rattle.inspection.specs.declared.classes.Tally.{Tally}
+use Rattle.inspection.specs.Sheets.{Sheet}
 use Rattle.inspection.specs.Lists.{has}
-
-abbrev pub no_tests : Tally
-no_tests = record { kept = 0; struck = 0; shared = 0; repeated = 0 }
-
-abbrev pub total : Tally → ℕ
-total t = t.kept + t.struck + t.shared + t.repeated
 
 -- one more of a class
 abbrev pub counted : Class → Tally → Tally
@@ -20,40 +15,37 @@ counted Struck t = record { kept = t.kept; struck = t.struck + 1; shared = t.sha
 counted Shared t = record { kept = t.kept; struck = t.struck; shared = t.shared + 1; repeated = t.repeated }
 counted Repeated t = record { kept = t.kept; struck = t.struck; shared = t.shared; repeated = t.repeated + 1 }
 
--- a count goes up to 2^32 − 1; in a run none comes near
-abbrev pub sum : ℕ → ℕ → ℕ
-sum m n = min (m + n) (2 ^ 32 - 1)
-
+-- as many more of each class
 abbrev pub together : Tally → Tally → Tally
-together s t =
-    record {
-      kept = sum s.kept t.kept;
-      struck = sum s.struck t.struck;
-      shared = sum s.shared t.shared;
-      repeated = sum s.repeated t.repeated;
-    }
+together s t = record { kept = s.kept + t.kept; struck = s.struck + t.struck; shared = s.shared + t.shared; repeated = s.repeated + t.repeated }
 
--- struck at a depth, of the tests that entries name
-abbrev pub struck_test : {E : Type 0} → (Shape → Bool) → ℕ → (E → Shape) → E → Bool
-struck_test set d shape e = struck_at set d (shape e)
+-- how the tests of one kind are judged: which are shared, which are struck, which are the same
+pub record Judge (E : Type 0) : Type 0 where
+  pub shared : E → Bool
+  pub struck : E → Bool
+  pub same : E → E → Bool
+
+-- by the sheet's rows, and by a filter's set at a depth
+abbrev pub judging : {E : Type 0} → (Sheet → E → Bool) → (Sheet → E → Shape) → (E → E → Bool) → (Shape → Bool) → ℕ → Sheet → Judge E
+judging shared shape same set d s = record { shared = shared s; struck = λ e. struck_at set d (shape s e); same = same }
 
 -- what is listed after a test of this class: a kept one is added at the end
 abbrev pub added : {E : Type 0} → Class → List E → E → List E
-added Kept listed e = listed ++ (e ∷ [])
-added Struck listed e = listed
-added Shared listed e = listed
-added Repeated listed e = listed
+added Kept es e = es ++ (e ∷ [])
+added Struck es e = es
+added Shared es e = es
+added Repeated es e = es
 
--- tests of one kind: which are shared, which are struck, which are the same
-module _ {E : Type 0} (shared struck : E → Bool) (same : E → E → Bool) where
+module _ {E : Type 0} (j : Judge E) where
   -- the first rule that fits: shared; struck; repeated, if it is listed; else kept
   abbrev pub class_of : List E → E → Class
-  class_of listed e = cond (shared e) Shared (cond (struck e) Struck (cond (has same e listed) Repeated Kept))
+  class_of es e = cond (j.shared e) Shared (cond (j.struck e) Struck (cond (has j.same e es) Repeated Kept))
 
+  -- the entries after tests, each in its turn
   abbrev pub listed_after : List E → List E → List E
-  listed_after listed [] = listed
-  listed_after listed (e ∷ es) = listed_after (added (class_of listed e) listed e) es
+  listed_after es [] = es
+  listed_after es (e ∷ rest) = listed_after (added (class_of es e) es e) rest
 
   abbrev pub counted_after : List E → List E → Tally → Tally
-  counted_after listed [] t = t
-  counted_after listed (e ∷ es) t = counted_after (added (class_of listed e) listed e) es (counted (class_of listed e) t)
+  counted_after es [] t = t
+  counted_after es (e ∷ rest) t = counted_after (added (class_of es e) es e) rest (counted (class_of es e) t)

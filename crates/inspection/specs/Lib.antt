@@ -1,8 +1,15 @@
+pub mod Totals
 pub mod Names
 pub mod Pairs
-pub mod Rows
+pub mod Sheets
 pub mod Lists
+pub mod Tests
 pub mod Classes
 pub mod Faults
+pub mod States
 pub mod Offers
-pub mod Depths
+pub mod Windows
+pub mod Runs
+pub mod Requests
+pub mod PairBytes
+pub mod Claims

@@ -1,6 +1,7 @@
 // The classes of tests, and their counts.
-ghost use Rattle.std.specs.Prelude.{◌≡◌, ◌^◌, ◌<◌};
-ghost use Rattle.inspection.specs.Classes.{no_tests, total, counted, together};
+ghost use Rattle.std.specs.Prelude.{◌≡◌, ◌+◌, ◌^◌, ◌<◌};
+ghost use Rattle.inspection.specs.Totals.{no_tests, total};
+ghost use Rattle.inspection.specs.Classes.{counted, together};
 
 /// What became of a test of an offer: the first of shared, struck, repeated and kept that fits.
 #[derive(Clone, Copy)]
@@ -18,6 +19,13 @@ pub struct Tally {
     pub struck: u32,
     pub shared: u32,
     pub repeated: u32,
+}
+
+/// The counts of both kinds of tests.
+#[derive(Clone, Copy, Debug, PartialEq, Eq)]
+pub struct Counts {
+    pub vf: Tally,
+    pub ee: Tally,
 }
 
 impl Tally {
@@ -45,13 +53,14 @@ impl Tally {
         }
     }
 
-    /// As many more of each class; a count that is full stays full.
+    /// As many more of each class.
     pub(crate) fn add(&mut self, more: Tally)
+        requires { total self.old + total more < 2 ^ 31 }
         ensures { self.new ≡ together self.old more }
     {
-        self.kept = self.kept.saturating_add(more.kept);
-        self.struck = self.struck.saturating_add(more.struck);
-        self.shared = self.shared.saturating_add(more.shared);
-        self.repeated = self.repeated.saturating_add(more.repeated);
+        self.kept += more.kept;
+        self.struck += more.struck;
+        self.shared += more.shared;
+        self.repeated += more.repeated;
     }
 }

@@ -1,20 +1,27 @@
 //! An inspection of one step of a sheet: the names of its tests, the lists that they stand on, the counts of their classes.
+#![tactic(auto)]
 
 mod classes;
 mod classing;
-mod depths;
 mod entries;
 mod faults;
+mod inspections;
 mod lists;
 mod names;
 mod offers;
+mod pair_bytes;
 mod pairs;
-mod rows;
+mod requests;
 mod sheets;
 mod tests;
 
-pub use classes::{Class, Tally};
+pub use classes::{Class, Counts, Tally};
 pub use entries::Entry;
 pub use faults::{OfferFault, OpeningFault, WindowFault};
+pub use inspections::{Closed, Inspection, Refused, Worked, inspect};
 pub use lists::List;
 pub use names::{EeName, VfName};
+pub use pair_bytes::offers_in;
+pub use requests::{Answer, Request};
+pub use sheets::Rows;
+pub use tests::TestName;

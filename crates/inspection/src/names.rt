@@ -7,14 +7,14 @@ use crate::entries::Entry;
 use sheet::Face;
 
 /// A VF test, by its point and the number of its face.
-#[derive(Clone, Copy, Debug, PartialEq, Eq)]
+#[derive(Clone, Copy, Debug, Default, PartialEq, Eq)]
 pub struct VfName {
     pub point: u16,
     pub face: u16,
 }
 
 /// An EE test, by the points of its edges: u, v and k, l.
-#[derive(Clone, Copy, Debug, PartialEq, Eq)]
+#[derive(Clone, Copy, Debug, Default, PartialEq, Eq)]
 pub struct EeName {
     pub u: u16,
     pub v: u16,

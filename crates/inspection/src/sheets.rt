@@ -1,33 +1,96 @@
 // A sheet as it lies in the first rows of the caller's tables.
-ghost use Rattle.std.specs.Prelude.{◌≡◌, ◌<◌, length};
+ghost use Rattle.std.specs.Prelude.{◌≡◌, true, false, length, MatchOption};
 ghost use Rattle.motion.specs.Laws.{InReach};
-ghost use Rattle.inspection.specs.Rows.{point_at, face_at};
+ghost use Rattle.inspection.specs.Sheets.{place_of, moving_of, sheet_of, sheet_in, seen, point_at, face_at};
+ghost use Rattle.inspection.specs.Offers.{short};
 
-use crate::rows::moving;
-use motion::Moving;
-use sheet::{Face, Point};
+use motion::{Moving, V3};
+use sheet::{Coords, Draft, Face, Point, held};
 
 /// The rows of a sheet, and no more.
 #[derive(Clone, Copy)]
-pub(crate) struct Sheet<'a> {
-    pub points: &'a [Point],
-    pub faces: &'a [Face],
+pub struct Rows<'a> {
+    points: &'a [Point],
+    faces: &'a [Face],
 }
 
-impl<'a> Sheet<'a> {
+impl<'a> Rows<'a> {
+    /// The first rows of two tables, as many as the draft counts; none where a table has fewer.
+    pub(crate) fn of(draft: &Draft, points: &'a [Point], faces: &'a [Face]) -> Option<Rows<'a>>
+        ensures { MatchOption result (short draft.now points.now faces.now ≡ true) (λ r. (short draft.now points.now faces.now ≡ false) × (seen r ≡ sheet_in draft.now points.now faces.now)) }
+    {
+        let (m, n) = (draft.points() as usize, draft.faces() as usize);
+        if points.len() < m || faces.len() < n {
+            return None;
+        }
+        Some(Rows {
+            points: &points[..m],
+            faces: &faces[..n],
+        })
+    }
+
+    /// How many points the sheet has.
+    pub(crate) fn points(self) -> usize
+        ensures { result ≡ length (seen self.entry).points }
+    {
+        self.points.len()
+    }
+
+    /// How many faces the sheet has.
+    pub(crate) fn faces(self) -> usize
+        ensures { result ≡ length (seen self.entry).faces }
+    {
+        self.faces.len()
+    }
+
     /// A point, each coordinate as it counts.
     pub(crate) fn point(self, i: u16) -> Moving
-        requires { i < length self.points.now }
-        ensures value { result ≡ point_at self.entry.points.now i }
+        ensures value { result ≡ point_at (seen self.entry) i }
         ensures reach { InReach 0 result }
     {
-        moving(self.points[i as usize])
+        if (i as usize) < self.points.len() {
+            return moving(self.points[i as usize]);
+        }
+        moving(NOWHERE)
     }
 
     pub(crate) fn face(self, i: u16) -> Face
-        requires { i < length self.faces.now }
-        ensures { result ≡ face_at self.entry.faces.now i }
+        ensures { result ≡ face_at (seen self.entry) i }
     {
-        self.faces[i as usize]
+        if (i as usize) < self.faces.len() {
+            return self.faces[i as usize];
+        }
+        NO_FACE
+    }
+}
+
+// past the end of a table: never asked for
+const ORIGIN: Coords = Coords { x: 0, y: 0, z: 0 };
+
+const NOWHERE: Point = Point {
+    start: ORIGIN,
+    end: ORIGIN,
+};
+
+const NO_FACE: Face = Face { a: 0, b: 0, c: 0 };
+
+/// A row's point, each coordinate as it counts.
+fn moving(point: Point) -> Moving
+    ensures value { result ≡ moving_of point }
+    ensures reach { InReach 0 result }
+{
+    Moving {
+        start: place(point.start),
+        end: place(point.end),
+    }
+}
+
+fn place(coords: Coords) -> V3
+    ensures { result ≡ place_of coords }
+{
+    V3 {
+        x: held(coords.x) as i64,
+        y: held(coords.y) as i64,
+        z: held(coords.z) as i64,
     }
 }

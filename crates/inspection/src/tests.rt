@@ -1,38 +1,41 @@
 // The tests that names stand for.
-ghost use Rattle.std.specs.Prelude.{◌≡◌, Bool, true, List};
+ghost use Rattle.std.specs.Prelude.{◌≡◌, Bool, refl};
 ghost use Rattle.motion.specs.declared.shapes.Shape.{Shape};
 ghost use Rattle.motion.specs.Laws.{InReach};
-ghost use Rattle.sheet.specs.declared.rows.Point.{Point};
-ghost use Rattle.sheet.specs.declared.rows.Face.{Face};
 ghost use Rattle.inspection.specs.Names.{ee_shared};
-ghost use Rattle.inspection.specs.Rows.{vf_shape, ee_shape, vf_shared, vf_inside, ee_inside};
-ghost use Rattle.std.proofs.Common.{rules};
+ghost use Rattle.inspection.specs.Sheets.{Sheet, seen};
+ghost use Rattle.inspection.specs.Tests.{corners_inside, vf_inside, vf_shared, vf_shape, ee_inside, ee_shape};
 
 use crate::entries::Entry;
 use crate::names::{EeName, VfName, is_corner};
-use crate::sheets::Sheet;
+use crate::sheets::Rows;
 use filters::Test;
 use motion::{Kind, Moving, Shape};
+use sheet::Face;
 
 /// An entry that names a test of a sheet.
-pub(crate) trait TestName: Entry {
+pub trait TestName: Entry {
     // its numbers are of the sheet
-    ghost inside: { List Point → List Face → Self → Bool };
+    ghost inside: { Sheet → Self → Bool };
 
     // its features have a point in common
-    ghost shared: { List Face → Self → Bool };
+    ghost shared: { Sheet → Self → Bool };
 
-    ghost shape: { List Point → List Face → Self → Shape };
+    ghost shape: { Sheet → Self → Shape };
 
-    fn is_shared(self, sheet: Sheet<'_>) -> bool
-        requires { inside sheet.points.now sheet.faces.now self ≡ true }
-        ensures { result ≡ shared sheet.entry.faces.now self };
+    /// Whether its numbers are of the sheet.
+    fn is_inside(self, rows: Rows<'_>) -> bool
+        ensures { result ≡ inside (seen rows.entry) self };
 
-    fn test(self, sheet: Sheet<'_>) -> Test
-        requires { inside sheet.points.now sheet.faces.now self ≡ true }
-        ensures { result.shape ≡ shape sheet.entry.points.now sheet.entry.faces.now self };
+    /// Whether its features have a point in common.
+    fn is_shared(self, rows: Rows<'_>) -> bool
+        ensures { result ≡ shared (seen rows.entry) self };
 
-    ghost unscaled: { (ps : List Point) (fs : List Face) (x : Self) → (shape ps fs x).scale ≡ 0 };
+    /// The test that it names.
+    fn test(self, rows: Rows<'_>) -> Test
+        ensures { result.shape ≡ shape (seen rows.entry) self };
+
+    ghost unscaled: { (s : Sheet) (x : Self) → (shape s x).scale ≡ 0 };
 }
 
 impl TestName for VfName {
@@ -42,48 +45,70 @@ impl TestName for VfName {
 
     ghost shape = { vf_shape };
 
-    ghost unscaled = { Prim.search rules };
+    ghost unscaled = { λ s x. refl };
 
-    fn is_shared(self, sheet: Sheet<'_>) -> bool {
-        is_corner(self.point, sheet.face(self.face))
+    fn is_inside(self, rows: Rows<'_>) -> bool {
+        (self.point as usize) < rows.points()
+            && (self.face as usize) < rows.faces()
+            && are_inside(rows.face(self.face), rows)
     }
 
-    fn test(self, sheet: Sheet<'_>) -> Test {
-        let face = sheet.face(self.face);
-        let p = sheet.point(self.point);
-        let a = sheet.point(face.a);
-        let b = sheet.point(face.b);
-        let c = sheet.point(face.c);
+    fn is_shared(self, rows: Rows<'_>) -> bool {
+        is_corner(self.point, rows.face(self.face))
+    }
+
+    fn test(self, rows: Rows<'_>) -> Test {
+        let face = rows.face(self.face);
+        let p = rows.point(self.point);
+        let a = rows.point(face.a);
+        let b = rows.point(face.b);
+        let c = rows.point(face.c);
         test_of(Kind::Vf, p, a, b, c)
     }
 }
 
 impl TestName for EeName {
-    ghost inside = { λ ps fs n. ee_inside ps n };
+    ghost inside = { ee_inside };
 
-    ghost shared = { λ fs n. ee_shared n };
+    ghost shared = { λ s n. ee_shared n };
 
-    ghost shape = { λ ps fs n. ee_shape ps n };
+    ghost shape = { ee_shape };
 
-    ghost unscaled = { Prim.search rules };
+    ghost unscaled = { λ s x. refl };
 
-    fn is_shared(self, _sheet: Sheet<'_>) -> bool {
+    fn is_inside(self, rows: Rows<'_>) -> bool {
+        let n = rows.points();
+        (self.u as usize) < n
+            && (self.v as usize) < n
+            && (self.k as usize) < n
+            && (self.l as usize) < n
+    }
+
+    fn is_shared(self, _rows: Rows<'_>) -> bool {
         self.has_common_point()
     }
 
-    fn test(self, sheet: Sheet<'_>) -> Test {
-        let u = sheet.point(self.u);
-        let v = sheet.point(self.v);
-        let k = sheet.point(self.k);
-        let l = sheet.point(self.l);
+    fn test(self, rows: Rows<'_>) -> Test {
+        let u = rows.point(self.u);
+        let v = rows.point(self.v);
+        let k = rows.point(self.k);
+        let l = rows.point(self.l);
         test_of(Kind::Ee, l, k, u, v)
     }
 }
 
+/// Whether each corner of the face is a point of the sheet.
+pub(crate) fn are_inside(face: Face, rows: Rows<'_>) -> bool
+    ensures { result ≡ corners_inside (seen rows.entry) face }
+{
+    let n = rows.points();
+    (face.a as usize) < n && (face.b as usize) < n && (face.c as usize) < n
+}
+
 /// The test of four points of a sheet.
 fn test_of(kind: Kind, p: Moving, a: Moving, b: Moving, c: Moving) -> Test
-    requires first { (InReach 0 p) × (InReach 0 a) }
-    requires second { (InReach 0 b) × (InReach 0 c) }
+    requires first { InReach 0 p × InReach 0 a }
+    requires second { InReach 0 b × InReach 0 c }
     ensures { result.shape ≡ record { kind = kind; p = p; a = a; b = b; c = c; scale = 0 } }
 {
     let shape = Shape {
@@ -95,7 +120,7 @@ fn test_of(kind: Kind, p: Moving, a: Moving, b: Moving, c: Moving) -> Test
         scale: 0,
     };
     let Some(test) = Test::new(shape) else {
-        unreachable()
+        unreachable!()
     };
     test
 }

@@ -1,12 +1,16 @@
 //! An example for those who make a filter of their own: it shows two laws about its set, and then goes where ours go.
 #![tactic(auto)]
 
+mod by_hand;
 mod lent;
 mod stacked;
 
+use by_hand::inspect_by_hand;
 use filters::{Filter, Row, Test, delivered_filter, struck_at};
+use inspection::{EeName, List, VfName};
 use lent::Lent;
 use motion::{Moving, Shape, V3};
+use sheet::{Coords, Face, Point, read_sheet};
 use stacked::Stacked;
 use std::io;
 
@@ -21,7 +25,34 @@ fn main(rt: HostRuntime) -> io::Result<()> {
         "above the face and sinking, yet never through it",
         point(9, 1),
     )?;
-    tell(&rt, "rising through the face", point(-1, 1))
+    tell(&rt, "rising through the face", point(-1, 1))?;
+    inspect(&rt)
+}
+
+/// An inspection of two faces, a corner of one of which sinks through the other, with our row behind the filter of this crate.
+fn inspect(rt: &HostRuntime) -> io::Result<()> {
+    let text = b"v 0 0 0\nv 4 0 0\nv 0 4 0\nv 1 1 1\nv 1 1 9\nv 2 1 9\nf 1 2 3\nf 4 5 6\n";
+    let mut points = [Point::default(); 6];
+    let mut faces = [Face::default(); 2];
+    let Ok(draft) = read_sheet(text, &mut points, &mut faces) else {
+        return println!(rt; "no sheet");
+    };
+    points[3].end = Coords { x: 1, y: 1, z: -1 };
+    let filter = Row {
+        first: Stacked,
+        second: delivered_filter(),
+    };
+    let mut vf_places = [VfName::default(); 6];
+    let mut ee_places = [EeName::default(); 9];
+    let mut vf = List::new(&mut vf_places);
+    let mut ee = List::new(&mut ee_places);
+    match inspect_by_hand(draft, filter, &points, &faces, &mut vf, &mut ee, 0, 1) {
+        Some(counts) => println!(rt;
+            "a corner sinks through: {} VF and {} EE tests are listed",
+            counts.vf.kept, counts.ee.kept
+        ),
+        None => println!(rt; "refused"),
+    }
 }
 
 /// A point that goes from one height to another over the middle of a resting face.

@@ -4,8 +4,8 @@ ghost use Rattle.sheet.specs.Notices.{name_of, fault_line};
 
 use std::fmt;
 
-/// What refused: the reader of a field, of a line, of a sheet or of a step, the writer of a step, or a call of an inspection: its
-/// opening, an offer, a window.
+/// What refused: the reader of a field, of a line, of a sheet or of a step, the writer of a step, a call of an inspection (its
+/// opening, an offer, a window), or the report.
 #[derive(Clone, Copy, Debug, PartialEq, Eq)]
 pub enum Layer {
     Field,
@@ -16,6 +16,7 @@ pub enum Layer {
     Opening,
     Offer,
     Window,
+    Report,
 }
 
 /// A fault in numbers: which it is, who refused, and its two places.
@@ -40,6 +41,7 @@ impl fmt::Display for Layer {
             Layer::Opening => write!(f, "opening"),
             Layer::Offer => write!(f, "offer"),
             Layer::Window => write!(f, "window"),
+            Layer::Report => write!(f, "report"),
         }
     }
 }

@@ -1,6 +1,6 @@
 // What a list does.
-ghost use Rattle.std.specs.Prelude.{◌≡◌, ◌+◌, ◌-◌, ◌<◌, ◌≤◌, length, ◌==◌, slice_index_or, slice_set};
-ghost use Rattle.inspection.specs.Lists.{table, entries, entry_at, has, extended};
+ghost use Rattle.std.specs.Prelude.{◌≡◌, ◌+◌, ◌-◌, ◌<◌, ◌≤◌, ◌++◌, length, ◌==◌, slice_index_or, slice_set};
+ghost use Rattle.inspection.specs.Lists.{table, held, entries, entry_at, has, filled, emptied};
 
 use super::List;
 use crate::entries::Entry;
@@ -67,6 +67,14 @@ impl<'a, E: Entry> List<'a, E> {
         self.len += 1;
     }
 
+    /// No entries; the table is as it was.
+    pub(crate) fn clear(&mut self)
+        ensures held { held self.new ≡ emptied (held self.old) }
+        ensures name { self.new.places.ghost_name ≡ self.old.places.ghost_name }
+    {
+        self.len = 0;
+    }
+
     /// The entry with this number, which there is.
     fn entry(&self, i: usize) -> E
         requires { i < self.now.len }
@@ -79,8 +87,7 @@ impl<'a, E: Entry> List<'a, E> {
     /// Puts the entries of another list behind those of this one.
     pub(crate) fn extend(&mut self, new: &List<'_, E>)
         requires { self.old.len + new.now.len ≤ length (table self.old) }
-        ensures len { self.new.len ≡ self.old.len + new.now.len }
-        ensures table { table self.new ≡ extended (table self.old) self.old.len (entries new.now) }
+        ensures held { held self.new ≡ filled (entries self.old ++ entries new.now) (held self.old) }
         ensures name { self.new.places.ghost_name ≡ self.old.places.ghost_name }
     {
         for i in 0..new.len() {

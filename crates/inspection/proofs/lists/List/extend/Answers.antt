@@ -1,7 +1,7 @@
-use Rattle.std.proofs.Common.{ℕ, length, set, refl, ap, ◌∙◌, arith}
-use Rattle.std.proofs.lemmas.List.{length-set}
-use Rattle.inspection.specs.Lists.{table}
-use Rattle.inspection.proofs.Extending.{put-none, put-more}
+use Rattle.std.proofs.Common.{◌≡◌, ℕ, ◌+◌, length, take, set, sym, refl, ap, ◌∙◌, arith}
+use Rattle.std.proofs.lemmas.List.{length-set, length-take-le}
+use Rattle.inspection.specs.Lists.{table, held, entries}
+use Rattle.inspection.proofs.Extending.{extended, put-none, put-more, is-filled}
 use Rattle.inspection.proofs.lists.List.extend.Goals as goal
 
 pub loop-i-init : goal.loop-i-init
@@ -20,3 +20,17 @@ loop-i-preserved g c =
       ap length p.table ∙ length-set (table c.loop-i.self) c.loop-i.self.len c.entry.result ∙ i.2,
       p.name ∙ i.3,
     )
+
+pub returns : goal.returns
+returns g c =
+    let l = c.args.self.now in
+    let new = c.args.new.now in
+    let fits = new.fits in
+    let old = l.fits in
+    let i = c.loop-i.invariant in
+    let n : c.loop-i.i ≡ new.len = omega arith in
+    let e = entries new in
+    record {
+      held = is-filled (table l) e l.len (held c.loop-i.self) old (i.1 ∙ ap (λ (k : ℕ). extended (table l) l.len (take k (table new))) n) (i.0 ∙ ap (λ (k : ℕ). l.len + k) (n ∙ sym (length-take-le new.len (table new) fits)));
+      name = i.3;
+    }

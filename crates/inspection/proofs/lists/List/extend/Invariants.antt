@@ -1,5 +1,6 @@
 use Rattle.std.proofs.Common.{◌≡◌, ◌+◌, length, take}
-use Rattle.inspection.specs.Lists.{table, extended}
+use Rattle.inspection.specs.Lists.{table}
+use Rattle.inspection.proofs.Extending.{extended}
 use Rattle.inspection.proofs.lists.List.extend.Given as goal
 
 abbrev pub invariant-loop-i : goal.invariant-loop-i

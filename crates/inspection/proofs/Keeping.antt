@@ -1,0 +1,83 @@
+-- What the tests of one kind and their list owe, at the end of a run.
+use Rattle.std.proofs.Common.{◌≡◌, ℕ, ◌+◌, ◌≤◌, Bool, true, false, List, length, sym, ◌∙◌, subst₂, inl, ⊎_elim, arith}
+use Rattle.std.proofs.lemmas.Bool.{cases_Bool, both_ways, false_from_ne_true}
+use Rattle.motion.specs.declared.shapes.Shape.{Shape}
+use Rattle.motion.specs.Laws.{Lawful, InReach, Apart}
+use Rattle.motion.specs.Depths.{struck_at, Struck}
+use Rattle.motion.proofs.DepthLaws.{struck}
+use Rattle.inspection.specs.Sheets.{Sheet, point_at}
+use Rattle.inspection.specs.Tests.{Naming}
+use Rattle.inspection.specs.Lists.{At, has}
+use Rattle.inspection.specs.Runs.{Accepted}
+use Rattle.inspection.specs.Claims.{Passed, Kept, Agree, Answered, Covers}
+use Rattle.inspection.proofs.Standing.{below}
+use Rattle.inspection.proofs.Namings.{Named}
+use Rattle.inspection.proofs.Gathering.{Upto}
+use Rattle.inspection.proofs.Agreeing.{agreed}
+
+-- the depths of an offer's tests
+room : (k d : ℕ) → k ≡ 0 → d ≤ 6 → k + d ≤ 6
+room k d e h = omega arith
+
+module _ {E : Type 0} (n : Naming E) (set : Shape → Bool) (law : Lawful set) (sheet : Sheet) (named : Named n sheet) where
+  struck-there : (d : ℕ) (e : E) → d ≤ 6 → ((k : ℕ) → InReach 0 (point_at sheet k)) → struck_at set d (n.shape sheet e) ≡ true → Struck set d (n.shape sheet e)
+  struck-there d e s r t = struck set law d (n.shape sheet e) (named.valid r e) (room (n.shape sheet e).scale d (named.scale e) s) t
+
+  module _ (h : List Accepted) (shallow : (i : ℕ) (o : Accepted) → At h i o → o.depth ≤ 6) (reached : (i : ℕ) (o : Accepted) → At h i o → (k : ℕ) → InReach 0 (point_at sheet k))
+      (es : List E) (u : Upto n set sheet h (length h) 0 es) where
+    pub all-passed : (e : E) (i j : ℕ) → Passed n set sheet h e i j → has n.same e es ≡ true
+    all-passed e i j w = u.passed e i j w (inl (below h i w.offer w.accepted))
+
+    pub kept : Kept n set sheet h es
+    kept =
+        record {
+          apart = stays;
+          listed = λ e t. let (i, (j, (w, b))) = u.listed e t in (i, (j, w));
+          passed = all-passed;
+          once = u.once;
+          order = λ k l x y s t b. u.order k l x y s t b;
+        }
+      where
+        stays : (i j : ℕ) (o : Accepted) (e : E) → At h i o → At (n.tests sheet o.first o.second) j e → n.shared sheet e ≡ false → has n.same e es ≡ false
+            → Apart (n.shape sheet e)
+        stays i j o e a b c d =
+            ⊎_elim (λ t. (struck-there o.depth e (shallow i o a) (reached i o a) t).apart) (λ f. absurd (both_ways (has n.same e es) d (listed_one f))) (cases_Bool (struck_at set o.depth (n.shape sheet e)))
+          where
+            listed_one : struck_at set o.depth (n.shape sheet e) ≡ false → has n.same e es ≡ true
+            listed_one f = all-passed e i j (record { offer = o; test = e; accepted = a; holds = b; same = named.itself e; unshared = c; passed = f })
+
+    -- what another run lists, by a set that agrees
+    module _ (set' : Shape → Bool) (same : Agree set set') (other : List Accepted) (shallow' : (i : ℕ) (o : Accepted) → At other i o → o.depth ≤ 6)
+        (others : List E) (v : Upto n set' sheet other (length other) 0 others) (answered : Answered h other) where
+      -- the same two faces, offered here
+      passed-as : (e : E) (i j : ℕ) (w : Passed n set' sheet other e i j) (k l : ℕ) (p : Accepted) → At h k p → p.depth ≤ w.offer.depth
+          → At (n.tests sheet p.first p.second) l w.test → has n.same e es ≡ true
+      passed-as e i j w k l p a c t =
+          all-passed e k l (record { offer = p; test = w.test; accepted = a; holds = t; same = w.same; unshared = w.unshared; passed = false_from_ne_true (struck_at set p.depth (n.shape sheet w.test)) not-struck })
+        where
+          deep : w.offer.depth ≤ 6
+          deep = shallow' i w.offer w.accepted
+
+          fits : (n.shape sheet w.test).scale + w.offer.depth ≤ 6
+          fits = room (n.shape sheet w.test).scale w.offer.depth (named.scale w.test) deep
+
+          there : struck_at set w.offer.depth (n.shape sheet w.test) ≡ false
+          there = sym (agreed set set' same w.offer.depth (n.shape sheet w.test) (named.valid (reached k p a) w.test) fits) ∙ w.passed
+
+          not-struck : struck_at set p.depth (n.shape sheet w.test) ≡ true → ⊥
+          not-struck s =
+              both_ways (struck_at set w.offer.depth (n.shape sheet w.test)) there
+              ((struck-there p.depth w.test (shallow k p a) (reached k p a) s).deeper w.offer.depth c fits)
+
+      passed-here : (e : E) (i j : ℕ) → Passed n set' sheet other e i j → has n.same e es ≡ true
+      passed-here e i j w =
+          let (k, (p, (a, b, c))) = answered i w.offer w.accepted in
+          ⊎_elim
+          (λ (x, y). passed-as e i j w k j p a c (subst₂ (λ (f g : ℕ). At (n.tests sheet f g) j w.test) (sym x) (sym y) w.holds))
+          (λ (x, y).
+          let (l, t) = named.turned w.offer.first w.offer.second j w.test w.holds w.unshared in
+          passed-as e i j w k l p a c (subst₂ (λ (f g : ℕ). At (n.tests sheet f g) l w.test) (sym x) (sym y) t))
+          b
+
+      pub covers : Covers n.same es others
+      covers e t = let (i, (j, (w, b))) = v.listed e t in passed-here e i j w

@@ -1,0 +1,136 @@
+-- Working through requests is a run, and its accepted offers are the run's history.
+use Rattle.std.proofs.Common.{◌≡◌, ℕ, ◌+◌, Bool, true, false, cond, is_ok, List, [], ◌∷◌, ◌++◌, Ok, Err, Result, sym, refl, ap, ◌∙◌, subst, append-nil, ◌<◌, ◌≤◌, length, get_or, take, drop, set as list_set, arith}
+use Rattle.std.proofs.lemmas.List.{append_assoc, take_more, take_more_set, drop-set-lt, drop-drop}
+use Rattle.sheet.specs.declared.drafts.Draft.{Draft}
+use Rattle.sheet.specs.declared.rows.Point.{Point}
+use Rattle.sheet.specs.declared.rows.Face.{Face}
+use Rattle.motion.specs.declared.shapes.Shape.{Shape}
+use Rattle.inspection.specs.declared.faults.OpeningFault.{OpeningFault}
+use Rattle.inspection.specs.declared.faults.OfferFault.{OfferFault}
+use Rattle.inspection.specs.declared.requests.Request.{Request}
+use Rattle.inspection.specs.declared.requests.Request.TheVariants.{SetDepth, Offer, VfWindow, EeWindow}
+use Rattle.inspection.specs.declared.requests.Answer.{Answer}
+use Rattle.inspection.specs.declared.requests.Answer.TheVariants.{DepthSet, Offered, Window}
+use Rattle.inspection.specs.Sheets.{Sheet, sheet_in}
+use Rattle.inspection.specs.declared.names.VfName.{VfName}
+use Rattle.inspection.specs.declared.names.EeName.{EeName}
+use Rattle.inspection.specs.Lists.{Held}
+use Rattle.inspection.specs.States.{Core, State, at_depth, start}
+use Rattle.inspection.specs.Offers.{Offered as OfferAnswered}
+use Rattle.inspection.specs.Runs.{Accepted, history_after, Run, opened, depth_set, offered, asked, DepthSet as DepthAnswered}
+use Rattle.motion.specs.Laws.{Lawful}
+use Rattle.inspection.specs.Claims.{Claim}
+use Rattle.inspection.proofs.Claiming.{claim}
+use Rattle.inspection.specs.Requests.{Answered, Steps, history}
+
+-- ---- what a step leaves of the draft and the depth
+set-depth : (b : Bool) (k : ℕ) (c : Core) → (cond b (at_depth k c) c).depth ≡ cond b k c.depth
+set-depth true k c = refl
+set-depth false k c = refl
+
+set-draft : (b : Bool) (k : ℕ) (c : Core) → (cond b (at_depth k c) c).draft ≡ c.draft
+set-draft true k c = refl
+set-draft false k c = refl
+
+module _ (set : Shape → Bool) (ps : List Point) (fs : List Face) where
+  depth-after : (s t : State) (k : ℕ) (r : Result (Unit {0}) OpeningFault) → DepthAnswered k s.core r t.core → t.core.depth ≡ cond (is_ok r) k s.core.depth
+  depth-after s t k r a = ap (λ (c : Core). c.depth) a.core ∙ set-depth (is_ok r) k s.core
+
+  pub draft-after : (s t : State) (k : ℕ) (r : Result (Unit {0}) OpeningFault) → DepthAnswered k s.core r t.core → t.core.draft ≡ s.core.draft
+  draft-after s t k r a = ap (λ (c : Core). c.draft) a.core ∙ set-draft (is_ok r) k s.core
+
+  offer-depth : (f g : ℕ) (s t : State) (r : Result (Unit {0}) OfferFault) → OfferAnswered set ps fs f g s r t → t.core.depth ≡ s.core.depth
+  offer-depth f g s t (Ok u) a = ap (λ (x : State). x.core.depth) a.state
+  offer-depth f g s t (Err e) a = ap (λ (x : State). x.core.depth) a.state
+
+  pub offer-draft : (f g : ℕ) (s t : State) (r : Result (Unit {0}) OfferFault) → OfferAnswered set ps fs f g s r t → t.core.draft ≡ s.core.draft
+  offer-draft f g s t (Ok u) a = ap (λ (x : State). x.core.draft) a.state
+  offer-draft f g s t (Err e) a = ap (λ (x : State). x.core.draft) a.state
+
+  -- ---- one step more of a run
+  module _ (d : Draft) where
+    abbrev sheet : Sheet
+    sheet = sheet_in d ps fs
+
+    abbrev Runs : List Accepted → State → Type 0
+    Runs = Run set sheet
+
+    abbrev Ends : List Accepted → List Request → List Answer → State → State → Type 0
+    Ends h qs rs s t = Runs (h ++ history s.core.depth qs rs) t
+
+    here : (h : List Accepted) (s t : State) → Runs h s → t ≡ s → Ends h [] [] s t
+    here h s t r e = subst (λ (k : List Accepted). Runs k t) (sym (append-nil h)) (asked t r e)
+
+    by-depth : (h : List Accepted) (k : ℕ) (r : Result (Unit {0}) OpeningFault) (qs : List Request) (rs : List Answer) (s u t : State)
+        → DepthAnswered k s.core r u.core → Ends h qs rs u t → Ends h (SetDepth k ∷ qs) (DepthSet r ∷ rs) s t
+    by-depth h k r qs rs s u t a e = subst (λ (m : ℕ). Runs (h ++ history m qs rs) t) (depth-after s u k r a) e
+
+    by-offer : (h : List Accepted) (f g : ℕ) (x : Result (Unit {0}) OfferFault) (qs : List Request) (rs : List Answer) (s u t : State)
+        → OfferAnswered set ps fs f g s x u → Ends (history_after h f g s.core.depth x) qs rs u t → Ends h (Offer f g ∷ qs) (Offered x ∷ rs) s t
+    by-offer h f g (Ok v) qs rs s u t a e =
+        let o : Accepted = record { first = f; second = g; depth = s.core.depth } in
+        subst (λ (k : List Accepted). Runs k t) (append_assoc h (o ∷ []) (history s.core.depth qs rs))
+        (subst (λ (m : ℕ). Runs ((h ++ (o ∷ [])) ++ history m qs rs) t) (offer-depth f g s u (Ok v) a) e)
+    by-offer h f g (Err v) qs rs s u t a e = subst (λ (m : ℕ). Runs (h ++ history m qs rs) t) (offer-depth f g s u (Err v) a) e
+
+    same-depth : (h : List Accepted) (qs : List Request) (rs : List Answer) (s u t : State) → u ≡ s → Ends h qs rs u t → Ends h qs rs s t
+    same-depth h qs rs s u t e r = subst (λ (x : State). Ends h qs rs x t) e r
+
+    pub worked-runs : (h : List Accepted) (qs : List Request) (rs : List Answer) (s t : State) → Runs h s → s.core.draft ≡ d → Steps set ps fs qs rs s t → Ends h qs rs s t
+    worked-runs h [] [] s t r e w = here h s t r w
+    worked-runs h [] (a ∷ rs) s t r e w = absurd w
+    worked-runs h (q ∷ qs) [] s t r e w = absurd w
+    worked-runs h (SetDepth k ∷ qs) (DepthSet x ∷ rs) s t r e w =
+        let u : State = w.0 in
+        let a = w.1.0 in
+        by-depth h k x qs rs s u t a.0
+        (worked-runs h qs rs u t (depth_set k x u r a.0 a.1 a.2) (draft-after s u k x a.0 ∙ e) w.1.1)
+    worked-runs h (SetDepth k ∷ qs) (Offered x ∷ rs) s t r e w = absurd w.1.0
+    worked-runs h (SetDepth k ∷ qs) (Window x ∷ rs) s t r e w = absurd w.1.0
+    worked-runs h (Offer f g ∷ qs) (Offered x ∷ rs) s t r e w =
+        let u : State = w.0 in
+        let a = w.1.0 in
+        by-offer h f g x qs rs s u t a
+        (worked-runs (history_after h f g s.core.depth x) qs rs u t
+        (offered ps fs f g x (history_after h f g s.core.depth x) u r (λ b. ap (λ (k : Draft). sheet_in k ps fs) e) a refl) (offer-draft f g s u x a ∙ e) w.1.1)
+    worked-runs h (Offer f g ∷ qs) (DepthSet x ∷ rs) s t r e w = absurd w.1.0
+    worked-runs h (Offer f g ∷ qs) (Window x ∷ rs) s t r e w = absurd w.1.0
+    worked-runs h (VfWindow i ∷ qs) (Window x ∷ rs) s t r e w =
+        let u : State = w.0 in
+        let a = w.1.0 in
+        same-depth h qs rs s u t a.1 (worked-runs h qs rs u t (asked u r a.1) (ap (λ (y : State). y.core.draft) a.1 ∙ e) w.1.1)
+    worked-runs h (VfWindow i ∷ qs) (DepthSet x ∷ rs) s t r e w = absurd w.1.0
+    worked-runs h (VfWindow i ∷ qs) (Offered x ∷ rs) s t r e w = absurd w.1.0
+    worked-runs h (EeWindow i ∷ qs) (Window x ∷ rs) s t r e w =
+        let u : State = w.0 in
+        let a = w.1.0 in
+        same-depth h qs rs s u t a.1 (worked-runs h qs rs u t (asked u r a.1) (ap (λ (y : State). y.core.draft) a.1 ∙ e) w.1.1)
+    worked-runs h (EeWindow i ∷ qs) (DepthSet x ∷ rs) s t r e w = absurd w.1.0
+    worked-runs h (EeWindow i ∷ qs) (Offered x ∷ rs) s t r e w = absurd w.1.0
+
+  -- ---- one request more, worked at the end
+  pub worked-more : (qs : List Request) (rs : List Answer) (q : Request) (a : Answer) (s t u : State)
+      → Steps set ps fs qs rs s t → Answered set ps fs q a t u → Steps set ps fs (qs ++ (q ∷ [])) (rs ++ (a ∷ [])) s u
+  worked-more [] [] q a s t u w b = (u, (subst (λ (x : State). Answered set ps fs q a x u) w b, refl))
+  worked-more [] (x ∷ rs) q a s t u w b = absurd w
+  worked-more (y ∷ qs) [] q a s t u w b = absurd w
+  worked-more (y ∷ qs) (x ∷ rs) q a s t u w b = (w.0, (w.1.0, worked-more qs rs q a w.0 t u w.1.1 b))
+
+-- ---- as a loop over both lists goes on
+module _ (set : Shape → Bool) (ps : List Point) (fs : List Face) where
+  pub worked-on : (qs : List Request) (rs : List Answer) (i : ℕ) (d : Request) (a : Answer) (s t u : State) → i < length qs → i < length rs
+      → Steps set ps fs (take i qs) (take i rs) s t → Answered set ps fs (get_or qs i d) a t u
+      → Steps set ps fs (take (i + 1) qs) (take (i + 1) (list_set rs i a)) s u
+  worked-on qs rs i d a s t u h k w b =
+      rw (take_more qs i d h, take_more_set rs i a k) (worked-more set ps fs (take i qs) (take i rs) (get_or qs i d) a s t u w b)
+
+pub rest-more : {A : Type 0} (xs ys : List A) (i : ℕ) (a : A) → drop i xs ≡ drop i ys → drop (i + 1) (list_set xs i a) ≡ drop (i + 1) ys
+rest-more xs ys i a e = drop-set-lt (i + 1) xs i a (omega arith) ∙ sym (drop-drop 1 i xs) ∙ ap (drop 1) e ∙ drop-drop 1 i ys
+
+-- ---- an opened inspection that was worked
+module _ (set : Shape → Bool) (law : Lawful set) (ps : List Point) (fs : List Face) (d : Draft) (k : ℕ) where
+  pub claimed : (vf : Held VfName) (ee : Held EeName) (qs : List Request) (rs : List Answer) (t : State) → k ≤ 6
+      → Steps set ps fs qs rs (start d k vf ee) t → Claim set (sheet_in d ps fs) (history k qs rs) t
+  claimed vf ee qs rs t h w =
+      claim law (sheet_in d ps fs) (history k qs rs) t
+      (worked-runs set ps fs d [] qs rs (start d k vf ee) t (opened (record { depth = h; core = refl; vf = refl; ee = refl })) refl w)

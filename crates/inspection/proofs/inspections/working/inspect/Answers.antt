@@ -1,0 +1,40 @@
+use Rattle.std.proofs.Common.{◌≡◌, ℕ, ◌<◌, ◌≤◌, length, take, ap, ◌∙◌, subst, arith}
+use Rattle.inspection.specs.Lists.{held}
+use Rattle.inspection.specs.Sheets.{sheet_in}
+use Rattle.inspection.specs.Claims.{Claim}
+use Rattle.inspection.specs.States.{Core, State, state_of, start}
+use Rattle.inspection.specs.Requests.{history}
+use Rattle.inspection.specs.declared.requests.Request.TheVariants.{SetDepth}
+use Rattle.inspection.proofs.Working.{worked-on, rest-more, claimed}
+use Rattle.inspection.proofs.inspections.working.inspect.Goals as goal
+
+pub loop-i-preserved : goal.loop-i-preserved
+loop-i-preserved g c =
+    let a = c.args in
+    let l = c.loop-i in
+    let i = l.invariant in
+    let e = c.answer.ensures in
+    let here : l.i < length a.requests.now = omega arith in
+    let there : l.i < length l.answers = omega arith in
+    let u : State = state_of c.answer.new.self c.answer.new.vf c.answer.new.ee in
+    record {
+      steps = worked-on (g.F.Filter.struck a.filter) a.points.now a.faces.now a.requests.now l.answers l.i (SetDepth 0) c.answer.result (start a.draft a.depth (held a.vf.now) (held a.ee.now)) (state_of l.inspection l.vf l.ee) u here there i.steps
+          (rw (← i.filter) e.step);
+      filter = e.filter ∙ i.filter;
+      rest = rest-more l.answers a.answers.now l.i c.answer.result i.rest;
+      vf_name = e.vf_name ∙ i.vf_name;
+      ee_name = e.ee_name ∙ i.ee_name;
+    }
+
+pub returns-clause-claim : goal.returns-clause-claim
+returns-clause-claim g c =
+    let a = c.args in
+    let l = c.loop-i in
+    let m = c.min-n.result in
+    let n : l.i ≡ m = omega arith in
+    let o = c.in_ok-inspection.ensures.opened.0 in
+    let k : a.depth ≤ 6 = subst (λ (d : ℕ). d ≤ 6) (ap (λ (x : Core). x.depth) o) c.in_ok-inspection.inspection.depths in
+    let set = g.F.Filter.struck a.filter in
+    let t : State = state_of l.inspection l.vf l.ee in
+    subst (λ (j : ℕ). Claim set (sheet_in a.draft a.points.now a.faces.now) (history a.depth (take j a.requests.now) (take j l.answers)) t) (n ∙ c.min-n.ensures)
+    (claimed set (g.F.Filter.lawful a.filter) a.points.now a.faces.now a.draft a.depth (held a.vf.now) (held a.ee.now) (take l.i a.requests.now) (take l.i l.answers) t k l.invariant.steps)

@@ -1,0 +1,66 @@
+-- The tests that names stand for, over a sheet.
+use Rattle.std.specs.Prelude.{ℕ, Bool, ◌&&◌, List, length, nat_lt}
+use Rattle.sheet.specs.declared.rows.Face.{Face}
+use Rattle.motion.specs.declared.shapes.Kind.TheVariants.{Vf, Ee}
+use Rattle.motion.specs.declared.shapes.Shape.{Shape}
+use Rattle.inspection.specs.declared.names.VfName.{VfName}
+use Rattle.inspection.specs.declared.names.EeName.{EeName}
+use Rattle.inspection.specs.Names.{corner, ee_shared, vf_same, ee_same}
+use Rattle.inspection.specs.Pairs.{vf_tests, ee_tests}
+use Rattle.inspection.specs.Sheets.{Sheet, point_at, face_at}
+
+-- the tests, at scale 0
+abbrev pub vf_shape : Sheet → VfName → Shape
+vf_shape s n =
+    record {
+      kind = Vf;
+      p = point_at s n.point;
+      a = point_at s (face_at s n.face).a;
+      b = point_at s (face_at s n.face).b;
+      c = point_at s (face_at s n.face).c;
+      scale = 0;
+    }
+
+abbrev pub ee_shape : Sheet → EeName → Shape
+ee_shape s n = record { kind = Ee; p = point_at s n.l; a = point_at s n.k; b = point_at s n.u; c = point_at s n.v; scale = 0 }
+
+abbrev pub vf_shared : Sheet → VfName → Bool
+vf_shared s n = corner n.point (face_at s n.face)
+
+-- ---- numbers of the sheet
+abbrev pub corners_inside : Sheet → Face → Bool
+corners_inside s f = nat_lt f.a (length s.points) && nat_lt f.b (length s.points) && nat_lt f.c (length s.points)
+
+-- its point, its face number and the corners of that face
+abbrev pub vf_inside : Sheet → VfName → Bool
+vf_inside s n = nat_lt n.point (length s.points) && nat_lt n.face (length s.faces) && corners_inside s (face_at s n.face)
+
+abbrev pub ee_inside : Sheet → EeName → Bool
+ee_inside s n =
+    nat_lt n.u (length s.points) && nat_lt n.v (length s.points) && nat_lt n.k (length s.points) && nat_lt n.l (length s.points)
+
+-- ---- the two kinds of tests, by their names
+pub record Naming (E : Type 0) : Type 0 where
+  -- those of two faces, in their order
+  pub tests : Sheet → ℕ → ℕ → List E
+  pub shared : Sheet → E → Bool
+  pub shape : Sheet → E → Shape
+  pub same : E → E → Bool
+
+abbrev pub vf_naming : Naming VfName
+vf_naming =
+    record {
+      tests = λ s f g. vf_tests f (face_at s f) g (face_at s g);
+      shared = vf_shared;
+      shape = vf_shape;
+      same = vf_same;
+    }
+
+abbrev pub ee_naming : Naming EeName
+ee_naming =
+    record {
+      tests = λ s f g. ee_tests (face_at s f) (face_at s g);
+      shared = λ s n. ee_shared n;
+      shape = ee_shape;
+      same = ee_same;
+    }

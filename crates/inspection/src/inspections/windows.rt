@@ -1,0 +1,49 @@
+// The window of an entry.
+ghost use Rattle.std.specs.Prelude.{◌≡◌};
+ghost use Rattle.motion.specs.Depths.{window_at};
+ghost use Rattle.inspection.specs.Sheets.{seen};
+ghost use Rattle.inspection.specs.Lists.{held};
+ghost use Rattle.inspection.specs.States.{core_of};
+ghost use Rattle.inspection.specs.Windows.{Windowed};
+
+use super::Inspection;
+use crate::faults::WindowFault;
+use crate::lists::List;
+use crate::sheets::Rows;
+use crate::tests::TestName;
+use filters::{Filter, window_at};
+use sheet::{Face, Point};
+
+impl<F: Filter> Inspection<F> {
+    /// The first and the last part of the step that the filter passes of an entry's test, at the depth now set; none where it strikes each.
+    pub fn window<E: TestName>(
+        &self,
+        points: &[Point],
+        faces: &[Face],
+        list: &List<'_, E>,
+        entry: u32,
+    ) -> Result<Option<(u8, u8)>, WindowFault>
+        ensures { Windowed E.TestName.inside E.TestName.shape points.now faces.now (core_of self.now) (held list.now) entry (F.Filter.struck self.now.filter) result }
+    {
+        let Some(rows) = Rows::of(&self.draft, points, faces) else {
+            return Err(WindowFault::TableTooShort);
+        };
+        let Some(e) = list.get(entry as usize) else {
+            return Err(WindowFault::NoSuchEntry(entry));
+        };
+        if !e.is_inside(rows) {
+            return Err(WindowFault::NotOfTheSheet(entry));
+        }
+        Ok(self.window_of(e, rows))
+    }
+
+    fn window_of<E: TestName>(&self, e: E, rows: Rows<'_>) -> Option<(u8, u8)>
+        ensures { result ≡ window_at (F.Filter.struck self.now.filter) self.now.depth (E.TestName.shape (seen rows.entry) e) }
+    {
+        let test = e.test(rows);
+        let Some(window) = window_at(&self.filter, &test, self.depth) else {
+            unreachable!()
+        };
+        window
+    }
+}

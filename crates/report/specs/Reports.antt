@@ -1,0 +1,56 @@
+-- The report of an inspection: its text, and the checks of the call in their order.
+use Rattle.std.specs.Prelude.{ℕ, ◌+◌, Bool, not, List, [], ◌∷◌, ◌++◌, length, take, Option, nat_lt, flat_map}
+use Rattle.sheet.specs.Checks.{Check}
+use Rattle.sheet.specs.declared.rows.Point.{Point}
+use Rattle.sheet.specs.declared.rows.Face.{Face}
+use Rattle.motion.specs.declared.shapes.Shape.{Shape}
+use Rattle.motion.specs.Depths.{window_at}
+use Rattle.inspection.specs.Sheets.{Sheet, sheet_in}
+use Rattle.inspection.specs.Tests.{vf_inside, vf_shape, ee_inside, ee_shape}
+use Rattle.inspection.specs.Lists.{Held, listed}
+use Rattle.inspection.specs.States.{State, tally_of}
+use Rattle.inspection.specs.Offers.{short}
+use Rattle.report.specs.declared.faults.Listed.{Listed}
+use Rattle.report.specs.declared.faults.Listed.TheVariants.{Vf, Ee}
+use Rattle.report.specs.Faults.{notice_at, place_of}
+use Rattle.report.specs.Lines.{vf_line, ee_line, count_line}
+
+-- the entries that have a number, which is below 2^32; an inspection lists no more than nine million
+unfoldable pub entry_limit : ℕ
+entry_limit = 4294967296
+
+abbrev pub numbered : {E : Type 0} → Held E → List E
+numbered h = take entry_limit (listed h)
+
+-- ---- the lines of entries, with their windows by a set at depth d
+module _ {E : Type 0} (line : E → Option (ℕ × ℕ) → List ℕ) (shape : E → Shape) (set : Shape → Bool) (d : ℕ) where
+  abbrev pub entry_line : E → List ℕ
+  entry_line e = line e (window_at set d (shape e))
+
+  abbrev pub entry_lines : List E → List ℕ
+  entry_lines es = flat_map entry_line es
+
+abbrev pub report_text : (Shape → Bool) → Sheet → State → List ℕ
+report_text set s st =
+    entry_lines vf_line (vf_shape s) set st.core.depth (numbered st.vf)
+    ++ (count_line Vf (tally_of 0 st.core)
+    ++ (entry_lines ee_line (ee_shape s) set st.core.depth (numbered st.ee)
+    ++ count_line Ee (tally_of 1 st.core)))
+
+-- ---- the checks
+abbrev pub refuses : Bool → ℕ → ℕ → ℕ → Check
+refuses b number first second = record { fits = b; tells = notice_at number first second }
+
+-- of the entries of a list from i on
+abbrev pub entry_checks : {E : Type 0} → (E → Bool) → Listed → ℕ → List E → List Check
+entry_checks inside l i [] = []
+entry_checks inside l i (e ∷ es) = refuses (not (inside e)) 19 i (place_of l) ∷ entry_checks inside l (i + 1) es
+
+-- all checks, for an output of so many bytes
+abbrev pub report_checks : (Shape → Bool) → List Point → List Face → State → ℕ → List Check
+report_checks set ps fs st places =
+    let s = sheet_in st.core.draft ps fs in
+    refuses (short st.core.draft ps fs) 16 0 0
+    ∷ (entry_checks (vf_inside s) Vf 0 (numbered st.vf)
+    ++ (entry_checks (ee_inside s) Ee 0 (numbered st.ee)
+    ++ (refuses (nat_lt places (length (report_text set s st))) 23 0 0 ∷ [])))

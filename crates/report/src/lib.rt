@@ -1,0 +1,11 @@
+//! The report of an inspection: its lists, with the windows at the depth now set, and its counts, in lines of text.
+#![tactic(auto)]
+
+mod faults;
+mod kinds;
+mod line;
+mod lists;
+mod reporting;
+
+pub use faults::{Listed, ReportFault};
+pub use reporting::report;
