@@ -1,9 +1,11 @@
 // Written from docs/RULES.md alone: the program `verdicts`.
 
 mod filters;
+mod numbers;
 
 use filters::{box_strikes, plane_numbers, plane_strikes, row_strikes, slab_strikes};
 use filters::{verdict_at_depth, Filter, Kind, Point, Test, Vector, Verdict};
+use numbers::Numbers;
 
 const TESTS: usize = 1000;
 const DEPTHS: usize = 7;
@@ -35,19 +37,6 @@ const CLASSES: [(&str, u32, Class); 7] = [
     ("equal", 0, Class::Equal),
     ("limits", 6, Class::Limits),
 ];
-
-/// The one state of the whole run.
-struct Numbers(u64);
-
-impl Numbers {
-    fn draw(&mut self) -> i128 {
-        self.0 = self
-            .0
-            .wrapping_mul(6364136223846793005)
-            .wrapping_add(1442695040888963407);
-        i128::from(self.0 >> 33)
-    }
-}
 
 /// The one sum of the whole run.
 struct Checksum(u64);
@@ -129,10 +118,7 @@ fn print_class(name: &str, counts: &[[u32; DEPTHS]; 4], checksum: &Checksum) {
 }
 
 fn main() {
-    if std::env::args_os().len() > 1 {
-        eprintln!("usage: verdicts");
-        std::process::exit(1);
-    }
+    // the one state of the whole run
     let mut numbers = Numbers(1);
     let mut checksum = Checksum(14695981039346656037);
     for (name, scale, class) in CLASSES {
