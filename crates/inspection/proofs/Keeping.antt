@@ -9,7 +9,7 @@ use Rattle.inspection.specs.Sheets.{Sheet, point_at}
 use Rattle.inspection.specs.Tests.{Naming}
 use Rattle.inspection.specs.Lists.{At, has}
 use Rattle.inspection.specs.Runs.{Accepted}
-use Rattle.inspection.specs.Claims.{Passed, Kept, Agree, Answered, Covers}
+use Rattle.inspection.specs.Claims.{Passed, ClaimOfKind, Agree, Answered, Covers}
 use Rattle.inspection.proofs.Standing.{below}
 use Rattle.inspection.proofs.Namings.{Named}
 use Rattle.inspection.proofs.Gathering.{Upto}
@@ -28,7 +28,7 @@ module _ {E : Type 0} (n : Naming E) (set : Shape → Bool) (law : Lawful set) (
     pub all-passed : (e : E) (i j : ℕ) → Passed n set sheet h e i j → has n.same e es ≡ true
     all-passed e i j w = u.passed e i j w (inl (below h i w.offer w.accepted))
 
-    pub kept : Kept n set sheet h es
+    pub kept : ClaimOfKind n set sheet h es
     kept =
         record {
           apart = stays;

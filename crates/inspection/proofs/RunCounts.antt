@@ -3,34 +3,17 @@ use Rattle.std.proofs.Common.{◌≡◌, ℕ, suc, ◌+◌, ◌*◌, Bool, List,
 use Rattle.sheet.specs.declared.rows.Point.{Point}
 use Rattle.sheet.specs.declared.rows.Face.{Face}
 use Rattle.motion.specs.declared.shapes.Shape.{Shape}
-use Rattle.inspection.specs.declared.classes.Class.{Class}
-use Rattle.inspection.specs.declared.classes.Class.TheVariants.{Kept, Struck, Shared, Repeated}
 use Rattle.inspection.specs.declared.classes.Tally.{Tally}
 use Rattle.inspection.specs.Sheets.{Sheet, sheet_in}
 use Rattle.inspection.specs.Tests.{vf_naming, ee_naming}
 use Rattle.inspection.specs.Lists.{listed}
-use Rattle.inspection.specs.Classes.{Judge, counted, class_of, added, counted_after}
 use Rattle.inspection.specs.Totals.{total, no_tests}
 use Rattle.inspection.specs.States.{Core, State}
 use Rattle.inspection.specs.Offers.{judge, taken}
 use Rattle.inspection.specs.States.{tally_of}
 use Rattle.inspection.specs.Runs.{Accepted, Run, Opened}
+use Rattle.inspection.proofs.Going.{total-after}
 use Rattle.inspection.proofs.Running.{Quiet, Lasts, by_run}
-
-one_more : (c : Class) (t : Tally) → total (counted c t) ≡ total t + 1
-one_more Kept t = omega arith
-one_more Struck t = omega arith
-one_more Shared t = omega arith
-one_more Repeated t = omega arith
-
-all-counted : {E : Type 0} (j : Judge E) (es ts : List E) (t : Tally) → total (counted_after j es ts t) ≡ total t + length ts
-all-counted j es [] t = omega arith
-all-counted j es (x ∷ ts) t =
-    let c = class_of j es x in
-    all-counted j (added c es x) ts (counted c t) ∙ one_later c
-  where
-    one_later : (c : Class) → total (counted c t) + length ts ≡ total t + suc (length ts)
-    one_later c = omega (arith, one_more c t)
 
 -- ---- one offer more
 one_offer : (a n m : ℕ) → a ≡ n → m ≡ n + 1 → a + 1 ≡ m
@@ -74,8 +57,8 @@ lasts set sheet = record { at_first = at_first; quiet = quiet; offer = λ h s ps
     offer h s ps fs f g e c =
         let o : Accepted = record { first = f; second = g; depth = s.core.depth } in
         let l = longer h o in
-        let v = all-counted (judge vf_naming set s.core.depth sheet f g) (listed s.vf) (vf_naming.tests sheet f g) (tally_of 0 s.core) in
-        let w = all-counted (judge ee_naming set s.core.depth sheet f g) (listed s.ee) (ee_naming.tests sheet f g) (tally_of 1 s.core) in
+        let v = total-after (judge vf_naming set s.core.depth sheet f g) (listed s.vf) (vf_naming.tests sheet f g) (tally_of 0 s.core) in
+        let w = total-after (judge ee_naming set s.core.depth sheet f g) (listed s.ee) (ee_naming.tests sheet f g) (tally_of 1 s.core) in
         record {
           offers = one_offer s.core.accepted (length h) (length (h ++ (o ∷ []))) c.offers l;
           vf = v ∙ six (total (tally_of 0 s.core)) (length h) (length (h ++ (o ∷ []))) c.vf l;

@@ -26,7 +26,7 @@ abbrev pub Before : ℕ → ℕ → ℕ → ℕ → Type 0
 Before i j k l = (i < k) ⊎ ((i ≡ k) × (j < l))
 
 -- of the tests of one kind, and their list
-pub record Kept {E : Type 0} (n : Naming E) (set : Shape → Bool) (sheet : Sheet) (history : List Accepted) (es : List E) : Type 0 where
+pub record ClaimOfKind {E : Type 0} (n : Naming E) (set : Shape → Bool) (sheet : Sheet) (history : List Accepted) (es : List E) : Type 0 where
   -- what an accepted offer holds, is not shared and is on no list stays apart at every fraction of the step
   pub apart : (i j : ℕ) (o : Accepted) (e : E) → At history i o → At (n.tests sheet o.first o.second) j e → n.shared sheet e ≡ false → has n.same e es ≡ false
       → Apart (n.shape sheet e)
@@ -65,8 +65,8 @@ pub record OfSheet (sheet : Sheet) (o : Accepted) : Type 0 where
 
 -- of a run with these accepted offers that ends in this state
 pub record Claim (set : Shape → Bool) (sheet : Sheet) (history : List Accepted) (s : State) : Type 0 where
-  pub vf : Kept vf_naming set sheet history (listed s.vf)
-  pub ee : Kept ee_naming set sheet history (listed s.ee)
+  pub vf : ClaimOfKind vf_naming set sheet history (listed s.vf)
+  pub ee : ClaimOfKind ee_naming set sheet history (listed s.ee)
   -- another run over the same sheet, by a filter of the same set, lists nothing that is lacking here, where its offers are answered here
   pub again : (set' : Shape → Bool) → Agree set set' → (other : List Accepted) (t : State) → Run set' sheet other t → Answered history other
       → Covers vf_naming.same (listed s.vf) (listed t.vf) × Covers ee_naming.same (listed s.ee) (listed t.ee)

@@ -1,11 +1,13 @@
 // Lists with just enough places, and with one too few.
 use crate::nothing::Nothing;
-use crate::plans::{crossing, open};
+use crate::plans::{crossing, open, tally};
 use inspection::{EeName, List, OfferFault, VfName};
+use std::process::Abort;
 use std::test::Fail;
 
-/// Offers two faces, all of whose tests are kept, to lists over these places.
+/// Offers two faces, all of whose tests are kept, to lists over these places; where that is refused, all is as it was.
 fn offer_to(
+    rt: &impl Abort,
     vf_places: &mut [VfName],
     ee_places: &mut [EeName],
 ) -> Result<Result<(), OfferFault>, Fail> {
@@ -13,21 +15,39 @@ fn offer_to(
     let mut vf = List::new(vf_places);
     let mut ee = List::new(ee_places);
     let mut inspection = open(plan.draft, Nothing, 6, &mut vf, &mut ee)?;
-    Ok(inspection.offer(&plan.points, &plan.faces, &mut vf, &mut ee, 0, 1))
+    let answer = inspection.offer(&plan.points, &plan.faces, &mut vf, &mut ee, 0, 1);
+    if answer.is_err() {
+        let counts = inspection.findings(&vf, &ee);
+        assert_eq!(rt;
+            (counts.vf, counts.ee),
+            (tally(0, 0, 0, 0), tally(0, 0, 0, 0))
+        );
+        assert!(rt; vf.is_empty() && ee.is_empty());
+    }
+    Ok(answer)
 }
 
 #[test]
 fn enough(rt: HostRuntime) -> Result<(), Fail> {
-    let answer = offer_to(&mut [VfName::default(); 6], &mut [EeName::default(); 9])?;
+    let answer = offer_to(
+        &rt,
+        &mut [VfName::default(); 6],
+        &mut [EeName::default(); 9],
+    )?;
     assert_eq!(rt; answer, Ok(()));
     Ok(())
 }
 
 #[test]
 fn one_too_few(rt: HostRuntime) -> Result<(), Fail> {
-    let answer = offer_to(&mut [VfName::default(); 5], &mut [EeName::default(); 9])?;
+    let marked = VfName { point: 7, face: 7 };
+    let mut vf_places = [marked; 5];
+    let answer = offer_to(&rt, &mut vf_places, &mut [EeName::default(); 9])?;
     assert_eq!(rt; answer, Err(OfferFault::ListFull));
-    let answer = offer_to(&mut [VfName::default(); 6], &mut [EeName::default(); 8])?;
+    assert_eq!(rt; vf_places, [marked; 5]);
+    let mut vf_places = [marked; 6];
+    let answer = offer_to(&rt, &mut vf_places, &mut [EeName::default(); 8])?;
     assert_eq!(rt; answer, Err(OfferFault::ListFull));
+    assert_eq!(rt; vf_places, [marked; 6]);
     Ok(())
 }

@@ -39,8 +39,11 @@ impl<'a, E: Entry> List<'a, E> {
     pub fn get(&self, i: usize) -> Option<E>
         ensures { result ≡ entry_at (entries self.now) i }
     {
-        let places = &*self.places;
-        if i < self.len { Some(places[i]) } else { None }
+        if i < self.len {
+            Some(self.entry(i))
+        } else {
+            None
+        }
     }
 
     /// Whether an entry is the same as this one.
