@@ -111,16 +111,14 @@ fn test_of(kind: Kind, p: Moving, a: Moving, b: Moving, c: Moving) -> Test
     requires second { InReach 0 b × InReach 0 c }
     ensures { result.shape ≡ record { kind = kind; p = p; a = a; b = b; c = c; scale = 0 } }
 {
-    let shape = Shape {
-        kind,
-        p,
-        a,
-        b,
-        c,
-        scale: 0,
-    };
-    let Some(test) = Test::new(shape) else {
-        unreachable!()
-    };
-    test
+    Test {
+        shape: Shape {
+            kind,
+            p,
+            a,
+            b,
+            c,
+            scale: 0,
+        },
+    }
 }
