@@ -1,5 +1,6 @@
 -- Plane keeps both laws.
-use Rattle.std.proofs.Common.{◌≡◌, ℕ, ◌+◌, ◌-◌, ◌*◌, ◌^◌, ◌≤◌, true, List, [], ◌∷◌, map, ℤ, pos, ◌*ℤ◌, nat_abs, sym, ap, ◌∙◌, subst, ⊎_elim, mul-le-mul_left, mul-pos, arith}
+use Rattle.std.proofs.Common.{◌≡◌, ℕ, ◌+◌, ◌-◌, ◌*◌, ◌^◌, ◌≤◌, true, List, [], ◌∷◌, map, ℤ, pos, ◌*ℤ◌, nat_abs, sym, ap, ◌∙◌, subst, ⊎_elim, mul-le-mul_left, mul-pos, pow-suc, arith}
+use native.Mathlib.Nat.{pow-zero}
 use mathlib.Core.Path.{transport}
 use Rattle.motion.specs.declared.shapes.V3.{V3}
 use Rattle.motion.specs.declared.shapes.Kind.{Kind}
@@ -9,8 +10,8 @@ use Rattle.motion.specs.declared.shapes.Shape.{Shape}
 use Rattle.motion.specs.Vectors.{◌-ᵛ◌, ◌·ᵛ◌, dot, cross}
 use Rattle.motion.specs.Features.{firsts, seconds, first, second}
 use Rattle.motion.specs.Laws.{Valid, Far, Apart, Lawful, Weights, weighted, total, difference, half}
-use Rattle.motion.specs.Plane.{plane_set}
-use Rattle.motion.proofs.Determinants.{det_of, seen, at_start, at_end, Above, Below, One-sign, sum}
+use Rattle.motion.specs.Plane.{plane_set, NeverCoplanar, volume_at}
+use Rattle.motion.proofs.Determinants.{det, det_of, seen, at_start, at_end, Above, Below, One-sign, sum}
 use Rattle.motion.proofs.Sizes.{abs-mul, abs_neg, far-by-normal}
 use Rattle.motion.proofs.Bernstein.{never-flat}
 use Rattle.motion.proofs.Weights.{face_difference, edge_difference, weighted-face, weighted-edge}
@@ -125,3 +126,26 @@ module _ (t : Shape) where
 
 pub plane-lawful : Lawful plane_set
 plane-lawful = record { apart = plane-apart; halves = λ t v k h. plane-halves t h }
+
+-- ---- never in one plane
+no-cube : (n : ℕ) → n ^ 3 ≤ 3 * nat_abs (pos 0) → 1 ≤ n → ⊥
+no-cube n h k = omega (arith, mul-pos (mul-pos k k) k, cubed n)
+  where
+    cubed : (n : ℕ) → n ^ 3 ≡ n * n * n
+    cubed n = pow-suc n 2 ∙ ap (λ (k : ℕ). k * n) (pow-suc n 1 ∙ ap (λ (k : ℕ). k * n) (pow-suc n 0 ∙ ap (λ (k : ℕ). k * n) (pow-zero n) ∙ omega arith))
+
+abbrev volume_of : V3 → V3 → V3 → V3 → ℤ
+volume_of p a b c = det_of (seen p a b c)
+
+module _ (t : Shape) (h : plane_set t ≡ true) where
+  flat-at : (r p : ℕ) → 1 ≤ r + p → volume_of (place (pos r) (pos p) t.p) (place (pos r) (pos p) t.a) (place (pos r) (pos p) t.b) (place (pos r) (pos p) t.c) ≡ pos 0 → ⊥
+  flat-at r p hq e =
+      no-cube (r + p) (subst (λ (z : ℤ). (r + p) ^ 3 ≤ 3 * nat_abs z) (sym (on-the-way (pos r) (pos p) t) ∙ e) (never-flat (at_start t) (at_end t) r p (one-sign t h))) hq
+
+  same-volume : (r p : ℕ) → volume_at p (r + p) t ≡ volume_of (place (pos r) (pos p) t.p) (place (pos r) (pos p) t.a) (place (pos r) (pos p) t.b) (place (pos r) (pos p) t.c)
+  unfolding seen det
+  same-volume r p = λ i. volume_of (at_place r p t.p i) (at_place r p t.a i) (at_place r p t.b i) (at_place r p t.c i)
+
+pub never-coplanar : NeverCoplanar
+never-coplanar t h p q hq hp e =
+    flat-at t h (q - p) p (omega arith) (sym (same-volume t h (q - p) p) ∙ subst (λ (n : ℕ). volume_at p n t ≡ pos 0) (sym (back p q hp)) e)

@@ -1,10 +1,11 @@
 -- Plane: the four values of the non-coplanarity test have one sign.
-use Rattle.std.specs.Prelude.{Bool, ◌&&◌, ◌||◌, pos, ◌+ℤ◌, ◌*ℤ◌, int_lt}
+use Rattle.std.specs.Prelude.{◌≡◌, ℕ, ◌≤◌, Bool, true, ◌&&◌, ◌||◌, ℤ, pos, ◌+ℤ◌, ◌*ℤ◌, int_lt}
 use Rattle.motion.specs.declared.shapes.V3.{V3}
 use Rattle.motion.specs.declared.shapes.Moving.{Moving}
 use Rattle.motion.specs.declared.shapes.Shape.{Shape}
 use Rattle.motion.specs.declared.shapes.Controls.{Controls}
 use Rattle.motion.specs.Vectors.{◌+ᵛ◌, ◌-ᵛ◌, dot, cross}
+use Rattle.motion.specs.Laws.{at}
 
 -- the move of a point
 abbrev pub velocity : Moving → V3
@@ -59,3 +60,11 @@ one_sign g = all_above g || all_below g
 
 abbrev pub plane_set : Shape → Bool
 plane_set t = one_sign (controls t)
+
+-- six times the volume of the four points at the fraction p/q of the step, times q^3
+abbrev pub volume_at : ℕ → ℕ → Shape → ℤ
+volume_at p q t = dot (at p q t.p -ᵛ at p q t.a) (normal (at p q t.a) (at p q t.b) (at p q t.c))
+
+-- the non-coplanarity theorem: what the rule strikes has its four points in one plane at no fraction of the step
+abbrev pub NeverCoplanar : Type 0
+NeverCoplanar = (t : Shape) → plane_set t ≡ true → (p q : ℕ) → 1 ≤ q → p ≤ q → volume_at p q t ≡ pos 0 → ⊥

@@ -4,7 +4,7 @@ ghost use Rattle.motion.specs.declared.shapes.Shape.{Shape};
 ghost use Rattle.motion.specs.Laws.{Lawful};
 ghost use Rattle.motion.specs.Box.{box_set};
 ghost use Rattle.motion.specs.Slab.{slab_set, Exactly};
-ghost use Rattle.motion.specs.Plane.{plane_set};
+ghost use Rattle.motion.specs.Plane.{plane_set, NeverCoplanar};
 ghost use Rattle.motion.specs.Depths.{Windowed};
 ghost use Rattle.motion.specs.Cases.{Cases};
 
@@ -16,6 +16,7 @@ pub fn laws_hold() -> u8
     ensures boxes { Lawful box_set }
     ensures slabs { Lawful slab_set }
     ensures planes { Lawful plane_set }
+    ensures never_coplanar { NeverCoplanar }
     ensures directions { Exactly }
     ensures windows { (set : Shape → Bool) → (d : ℕ) → (t : Shape) → Windowed set d t }
 {
