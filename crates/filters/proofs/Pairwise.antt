@@ -10,7 +10,7 @@ use Rattle.motion.specs.declared.shapes.Moving.{Moving}
 use Rattle.motion.specs.declared.shapes.Shape.{Shape}
 use Rattle.motion.specs.Vectors.{◌-ᵛ◌, dot}
 use Rattle.motion.specs.Features.{firsts, seconds, first, second}
-use Rattle.motion.specs.Lists.{each}
+use Rattle.std.specs.List.{list_all}
 use Rattle.motion.specs.Slab.{pairs, above, below, parted_along}
 use Rattle.motion.proofs.BoxLaws.{dot-minus}
 use Rattle.filters.specs.Spans.{under, stay_parted}
@@ -36,7 +36,7 @@ module _ (d : V3) where
   beneath : (p q : V3) → lt_z (dot d p) (dot d q) ≡ below d (p -ᵛ q)
   beneath p q = below-zero (dot d p) (dot d q) (dot d (p -ᵛ q)) (dot-minus d p q)
 
--- ---- one against three and two against two, in the order of `each`
+-- ---- one against three and two against two, in the order of `list_all`
 three : (a b c : Bool) → ((a && b) && c) ≡ ((a && (b && (c && true))) && true)
 three true true true = refl
 three true true false = refl
@@ -51,7 +51,7 @@ grid a b c d = grind arith
 
 -- every pair at one time
 abbrev pub all : (V3 → Bool) → Kind → V3 → V3 → V3 → V3 → Bool
-all f k p a b c = each (λ m. each (λ n. f (m -ᵛ n)) (seconds k p a b c)) (firsts k p a b c)
+all f k p a b c = list_all (λ m. list_all (λ n. f (m -ᵛ n)) (seconds k p a b c)) (firsts k p a b c)
 
 module _ (d : V3) where
   pub over-is : (k : Kind) (p a b c : V3) → under (sides_along d k p a b c).second (sides_along d k p a b c).first ≡ all (above d) k p a b c
@@ -77,22 +77,22 @@ swap true false true d = refl
 swap true false false d = refl
 swap false b c d = refl
 
-each_both : {A : Type 0} (f g : A → Bool) (xs : List A) → (each f xs && each g xs) ≡ each (λ x. f x && g x) xs
+each_both : {A : Type 0} (f g : A → Bool) (xs : List A) → (list_all f xs && list_all g xs) ≡ list_all (λ x. f x && g x) xs
 each_both f g [] = refl
-each_both f g (x ∷ xs) = swap (f x) (each f xs) (g x) (each g xs) ∙ ap (λ b. (f x && g x) && b) (each_both f g xs)
+each_both f g (x ∷ xs) = swap (f x) (list_all f xs) (g x) (list_all g xs) ∙ ap (λ b. (f x && g x) && b) (each_both f g xs)
 
-each_same : {A : Type 0} (f g : A → Bool) → ((x : A) → f x ≡ g x) → (xs : List A) → each f xs ≡ each g xs
+each_same : {A : Type 0} (f g : A → Bool) → ((x : A) → f x ≡ g x) → (xs : List A) → list_all f xs ≡ list_all g xs
 each_same f g e [] = refl
 each_same f g e (x ∷ xs) = λ i. e x i && each_same f g e xs i
 
 module _ (f : V3 → Bool) where
   abbrev one : (Moving → V3) → List Moving → List Moving → Bool
-  one g ms ns = each (λ m. each (λ n. f (g m -ᵛ g n)) ns) ms
+  one g ms ns = list_all (λ m. list_all (λ n. f (g m -ᵛ g n)) ns) ms
 
   both : (ms ns : List Moving)
-      → (one (λ m. m.start) ms ns && one (λ m. m.end) ms ns) ≡ each (λ m. each (λ n. f (m.start -ᵛ n.start) && f (m.end -ᵛ n.end)) ns) ms
+      → (one (λ m. m.start) ms ns && one (λ m. m.end) ms ns) ≡ list_all (λ m. list_all (λ n. f (m.start -ᵛ n.start) && f (m.end -ᵛ n.end)) ns) ms
   both ms ns =
-      each_both (λ m. each (λ n. f (m.start -ᵛ n.start)) ns) (λ m. each (λ n. f (m.end -ᵛ n.end)) ns) ms
+      each_both (λ m. list_all (λ n. f (m.start -ᵛ n.start)) ns) (λ m. list_all (λ n. f (m.end -ᵛ n.end)) ns) ms
       ∙ each_same _ _ (λ m. each_both (λ n. f (m.start -ᵛ n.start)) (λ n. f (m.end -ᵛ n.end)) ns) ms
 
   -- the pairs of places are those of the points there

@@ -1,6 +1,6 @@
 // The filter Slab: a direction along which one feature stays beyond the other.
 ghost use Rattle.std.specs.Prelude.{◌≡◌};
-ghost use Rattle.motion.specs.Slab.{parted_along, directions, slab_set};
+ghost use Rattle.motion.specs.Slab.{parted_along, slab_set};
 ghost use Rattle.motion.specs.Laws.{Within};
 ghost use Rattle.motion.proofs.SlabLaws.{slab-lawful};
 ghost use Rattle.filters.specs.Slabs.{start_sides, end_sides};
@@ -45,18 +45,7 @@ impl Filter for SlabFilter {
 fn some_parts(test: &Test) -> bool
     ensures { result ≡ slab_set test.now.shape }
 {
-    for d in all_directions() {
-        if parts(d, test) {
-            return true;
-        }
-    }
-    false
-}
-
-fn all_directions() -> [V3; 13]
-    ensures { result ≡ directions }
-{
-    DIRECTIONS
+    DIRECTIONS.iter().any(|d| parts(*d, test))
 }
 
 /// Along the direction one feature is beyond the other, at the start and at the end alike.

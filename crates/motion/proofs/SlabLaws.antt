@@ -10,7 +10,7 @@ use Rattle.motion.specs.declared.shapes.Shape.{Shape}
 use Rattle.motion.specs.Vectors.{◌+ᵛ◌, ◌-ᵛ◌, dot}
 use Rattle.motion.specs.Features.{first, second}
 use Rattle.motion.specs.Laws.{Within, Apart, Lawful, portion, half, after}
-use Rattle.motion.specs.Lists.{each}
+use Rattle.std.specs.List.{list_all}
 use Rattle.motion.specs.Slab.{pairs, above, below, parted_along, directions, slab_set}
 use Rattle.motion.proofs.Ring.{◌⊕◌, ring}
 use Rattle.motion.proofs.Expressions.{◌+ᵉ◌, dotᵉ, vars, put}
@@ -28,11 +28,11 @@ module _ (f : V3 → Bool) where
   abbrev both : Moving → Moving → Bool
   both m n = f (m.start -ᵛ n.start) && f (m.end -ᵛ n.end)
 
-  to-pairs : (ms ns : List Moving) → each (λ m. each (both m) ns) ms ≡ true → Pairs f ms ns
-  to-pairs ms ns h = all_map (λ m q. all_map (λ n s. and_parts _ _ s) ns (each_all (both m) ns q)) ms (each_all (λ m. each (both m) ns) ms h)
+  to-pairs : (ms ns : List Moving) → list_all (λ m. list_all (both m) ns) ms ≡ true → Pairs f ms ns
+  to-pairs ms ns h = all_map (λ m q. all_map (λ n s. and_parts _ _ s) ns (each_all (both m) ns q)) ms (each_all (λ m. list_all (both m) ns) ms h)
 
-  from-pairs : (ms ns : List Moving) → Pairs f ms ns → each (λ m. each (both m) ns) ms ≡ true
-  from-pairs ms ns h = all-each (λ m. each (both m) ns) ms (all_map (λ m q. all-each (both m) ns (all_map (λ n s. and_from _ _ s.0 s.1) ns q)) ms h)
+  from-pairs : (ms ns : List Moving) → Pairs f ms ns → list_all (λ m. list_all (both m) ns) ms ≡ true
+  from-pairs ms ns h = all-each (λ m. list_all (both m) ns) ms (all_map (λ m q. all-each (both m) ns (all_map (λ n s. and_from _ _ s.0 s.1) ns q)) ms h)
 
 -- ---- the gap
 beyond-above : (d : V3) (ms ns : List Moving) → Pairs (above d) ms ns → Beyonds d ms ns

@@ -1,13 +1,5 @@
--- Tests of a whole list.
-use Rattle.std.specs.Prelude.{◌≡◌, Bool, true, false, ◌&&◌, ◌||◌, ◌⊎◌, List, [], ◌∷◌}
-
-abbrev pub each : {A : Type 0} → (A → Bool) → List A → Bool
-each f [] = true
-each f (x ∷ xs) = f x && each f xs
-
-abbrev pub some : {A : Type 0} → (A → Bool) → List A → Bool
-some f [] = false
-some f (x ∷ xs) = f x || some f xs
+-- A member of a list.
+use Rattle.std.specs.Prelude.{◌≡◌, ◌⊎◌, List, [], ◌∷◌}
 
 abbrev pub In : {A : Type 0} → A → List A → Type 0
 In x [] = ⊥

@@ -1,14 +1,15 @@
 -- Slab: along one of thirteen directions each point of one feature stays beyond each of the other, at start and at end.
 use Rattle.std.specs.Prelude.{◌≡◌, Bool, ◌&&◌, ◌||◌, ◌⊎◌, List, [], ◌∷◌, ℤ, pos, negsuc, int_lt}
+use Rattle.std.specs.List.{list_all, list_any}
 use Rattle.motion.specs.declared.shapes.V3.{V3}
 use Rattle.motion.specs.declared.shapes.Shape.{Shape}
 use Rattle.motion.specs.Vectors.{◌-ᵛ◌, dot, vector}
 use Rattle.motion.specs.Features.{first, second}
-use Rattle.motion.specs.Lists.{each, some, In}
+use Rattle.motion.specs.Lists.{In}
 
 -- what holds of each pair of a point of the first and one of the second feature, at start and at end
 abbrev pub pairs : (V3 → Bool) → Shape → Bool
-pairs f t = each (λ m. each (λ n. f (m.start -ᵛ n.start) && f (m.end -ᵛ n.end)) (second t)) (first t)
+pairs f t = list_all (λ m. list_all (λ n. f (m.start -ᵛ n.start) && f (m.end -ᵛ n.end)) (second t)) (first t)
 
 abbrev pub above : V3 → V3 → Bool
 above d v = int_lt (pos 0) (dot d v)
@@ -36,7 +37,7 @@ directions =
     ∷ vector one one one ∷ vector one one back ∷ vector one back one ∷ vector one back back ∷ []
 
 abbrev pub slab_set : Shape → Bool
-slab_set t = some (parted_along t) directions
+slab_set t = list_any (parted_along t) directions
 
 -- ---- which directions these are
 -- −1, 0 or 1
