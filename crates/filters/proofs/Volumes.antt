@@ -1,5 +1,5 @@
 -- The vectors of Plane and the size of its control values.
-use Rattle.std.proofs.Common.{◌≡◌, ℕ, ◌*◌, ◌^◌, ◌≤◌, ℤ, pos, ◌+ℤ◌, ◌*ℤ◌, nat_abs, sym, ap, ◌∙◌, subst, arith, w64, to_z, of_z}
+use Rattle.std.proofs.Common.{◌≡◌, ℕ, ◌*◌, ◌^◌, ◌≤◌, ℤ, pos, nat_abs, sym, subst, arith}
 use Rattle.motion.specs.declared.shapes.V3.{V3}
 use Rattle.motion.specs.declared.shapes.Shape.{Shape}
 use Rattle.motion.specs.declared.shapes.Controls.{Controls}
@@ -8,7 +8,7 @@ use Rattle.motion.specs.Plane.{d0, d1, n0, n1, turned, controls}
 use Rattle.motion.proofs.Determinants.{Triple, det, G0, G1, G2, G3, seen, at_start, at_end}
 use Rattle.motion.proofs.Letters.{g0-is, g1-is, g2-is, g3-is}
 use Rattle.filters.specs.Sizes.{Near, Reach, Small}
-use Rattle.filters.proofs.Exact.{near_add, near_mul, value, called}
+use Rattle.filters.proofs.Exact.{near_add, near_mul}
 use Rattle.filters.proofs.Reaches.{minus-reach, cross-reach, dot-near, p0, p1, a0, a1, b0, b1, c0, c1}
 
 -- ---- the vectors
@@ -29,15 +29,8 @@ module _ (t : Shape) (v : Valid t) where
   turned-reach =
       cross-reach (minus-reach (minus-reach (b1 t v) (b0 t v)) (minus-reach (a1 t v) (a0 t v))) (minus-reach (minus-reach (c1 t v) (c0 t v)) (minus-reach (a1 t v) (a0 t v)))
 
--- what the calls that make a control value return, as the code has it
 three : Near 3 (pos 3)
 three = record { size = omega arith }
-
-pub tripled : {raw v : ℤ} → raw ≡ pos 3 *ℤ to_z w64 (of_z w64 v) → Near (3 * 2 ^ 58) v → to_z w64 (of_z w64 raw) ≡ pos 3 *ℤ v
-tripled e h = (called {w = w64} (e ∙ ap (λ (z : ℤ). pos 3 *ℤ z) (value {w = w64} h tt).same) (near_mul three h) tt).same
-
-pub summed : {raw u v : ℤ} → raw ≡ to_z w64 (of_z w64 u) +ℤ to_z w64 (of_z w64 v) → Near (9 * 2 ^ 59) u → Near (3 * 2 ^ 58) v → to_z w64 (of_z w64 raw) ≡ u +ℤ v
-summed e h k = (called {w = w64} (e ∙ (λ i. (value {w = w64} h tt).same i +ℤ (value {w = w64} k tt).same i)) (near_add h k) tt).same
 
 -- ---- the control values, as determinants
 abbrev V : ℕ

@@ -1,17 +1,9 @@
 use Rattle.std.proofs.Common.{◌∙◌}
 use Rattle.motion.specs.Vectors.{◌+ᵛ◌, ◌-ᵛ◌}
 use Rattle.motion.specs.Plane.{combined, controls}
-use Rattle.filters.proofs.Reaches.{same-reach, wider, a0, a1, b0, b1, c0, c1}
+use Rattle.filters.proofs.Reaches.{same-reach}
 use Rattle.filters.proofs.Volumes.{d0-reach, d1-reach, n0-reach, n1-reach, turned-reach, small}
 use Rattle.filters.proofs.planes.controls.Goals as goal
-
-pub normal-n0-requires : goal.normal-n0-requires
-normal-n0-requires c =
-    let t = c.args.test.now.shape in let v = c.args.test.now.valid in record { first = wider (a0 t v) tt; second = wider (b0 t v) tt; third = wider (c0 t v) tt }
-
-pub normal-n1-requires : goal.normal-n1-requires
-normal-n1-requires c =
-    let t = c.args.test.now.shape in let v = c.args.test.now.valid in record { first = wider (a1 t v) tt; second = wider (b1 t v) tt; third = wider (c1 t v) tt }
 
 pub between-n-requires : goal.between-n-requires
 between-n-requires c =

@@ -1,12 +1,6 @@
 use Rattle.std.proofs.Common.{w64}
-use Rattle.filters.proofs.Exact.{less, less-fits, product, product-fits}
+use Rattle.filters.proofs.Exact.{less, less-fits, product}
 use Rattle.filters.proofs.vectors.minor.Goals as goal
-
-pub overflow_mul-result : goal.overflow_mul-result
-overflow_mul-result c = search product-fits
-
-pub overflow_mul-result-2 : goal.overflow_mul-result-2
-overflow_mul-result-2 c = search product-fits
 
 pub overflow_sub-result : goal.overflow_sub-result
 overflow_sub-result c = less-fits (product c.requires.first c.requires.fourth tt tt tt) (product c.requires.second c.requires.third tt tt tt) tt
