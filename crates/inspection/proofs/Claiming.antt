@@ -1,42 +1,43 @@
 -- The claim, for every set that keeps the laws.
-use Rattle.std.proofs.Common.{Bool, List}
+use Rattle.std.proofs.Common.{ℕ, Bool, List, [], length, subst, append-nil}
+use Rattle.sheet.specs.declared.drafts.Draft.{Draft}
 use Rattle.motion.specs.declared.shapes.Shape.{Shape}
 use Rattle.motion.specs.Laws.{Lawful}
+use Rattle.inspection.specs.declared.classes.Tally.{Tally}
 use Rattle.inspection.specs.Sheets.{Sheet}
-use Rattle.inspection.specs.Tests.{vf_naming, ee_naming}
-use Rattle.inspection.specs.Lists.{listed}
+use Rattle.inspection.specs.Tests.{Naming, vf_naming, ee_naming}
+use Rattle.inspection.specs.Lists.{At}
 use Rattle.inspection.specs.States.{State}
 use Rattle.inspection.specs.Runs.{Accepted, Run}
 use Rattle.inspection.specs.Claims.{Claim}
 use Rattle.inspection.proofs.NamedVf.{vf_named}
 use Rattle.inspection.proofs.NamedEe.{ee_named}
-use Rattle.inspection.proofs.RunDepths.{shallow, reached}
-use Rattle.inspection.proofs.RunCounts.{counts}
-use Rattle.inspection.proofs.RunInside.{insides}
-use Rattle.inspection.proofs.RunKept.{kept_counts}
-use Rattle.inspection.proofs.RunLists.{gathered}
+use Rattle.inspection.proofs.Gathering.{Upto}
+use Rattle.inspection.proofs.Moments.{Kind, Moment, moment}
 use Rattle.inspection.proofs.Keeping.{kept, covers}
 
-pub claim : {set : Shape → Bool} → Lawful set → (sheet : Sheet) (h : List Accepted) (s : State) → Run set sheet h s → Claim set sheet h s
-claim {set} law sheet h s run =
-    let low = shallow set sheet h s run in
-    let near = reached set sheet h s run in
-    let c = counts set sheet h s run in
-    let k = kept_counts set sheet h s run in
-    let (u, v) = gathered set sheet h s run in
+-- at the end of a run nothing comes later
+ended : {E : Type 0} {n : Naming E} {times : ℕ → ℕ} {set : Shape → Bool} {sheet : Sheet} {h : List Accepted} {es : List E} {t : Tally} → Kind n times set sheet h es t → Upto n set sheet h (length h) 0 es
+ended {n} {set} {sheet} {h} {es} k = subst (λ (x : List Accepted). Upto n set sheet x (length h) 0 es) (append-nil h) (k.gathered [])
+
+pub claim : {set : Shape → Bool} → Lawful set → (d : Draft) (sheet : Sheet) (h : List Accepted) (s : State) → Run set d sheet h s → Claim set d sheet h s
+claim {set} law d sheet h s run =
+    let m : Moment set d sheet h s = moment set d sheet run in
+    let low = λ (i : ℕ) (o : Accepted) (a : At h i o). (m.each i o a).shallow in
+    let near = λ (i : ℕ) (o : Accepted) (a : At h i o). (m.each i o a).near in
     record {
-      vf = kept vf_naming set law sheet (vf_named sheet) h low near (listed s.vf) u;
-      ee = kept ee_naming set law sheet (ee_named sheet) h low near (listed s.ee) v;
-      again = λ set' same other t run' answered.
-          let low' = shallow set' sheet other t run' in
-          let (u', v') = gathered set' sheet other t run' in (
-            covers vf_naming set law sheet (vf_named sheet) h low near (listed s.vf) u set' same other low' (listed t.vf) u' answered,
-            covers ee_naming set law sheet (ee_named sheet) h low near (listed s.ee) v set' same other low' (listed t.ee) v' answered,
+      draft = m.draft;
+      vf = kept vf_naming set law sheet (vf_named sheet) h low near s.vf.entries (ended m.vf);
+      ee = kept ee_naming set law sheet (ee_named sheet) h low near s.ee.entries (ended m.ee);
+      again = λ set' same d' other t run' answered.
+          let m' : Moment set' d' sheet other t = moment set' d' sheet run' in (
+            covers vf_naming set law sheet (vf_named sheet) h low near s.vf.entries (ended m.vf) set' same other (λ i o a. (m'.each i o a).shallow) t.vf.entries (ended m'.vf) answered,
+            covers ee_naming set law sheet (ee_named sheet) h low near s.ee.entries (ended m.ee) set' same other (λ i o a. (m'.each i o a).shallow) t.ee.entries (ended m'.ee) answered,
           );
-      of_sheet = insides set sheet h s run;
-      offers = c.offers;
-      vf_classes = c.vf;
-      ee_classes = c.ee;
-      vf_kept = k.vf;
-      ee_kept = k.ee;
+      of_sheet = λ i o a. (m.each i o a).of_sheet;
+      offers = m.offers;
+      vf_classes = m.vf.classes;
+      ee_classes = m.ee.classes;
+      vf_counts = m.vf.counts;
+      ee_counts = m.ee.counts;
     }

@@ -114,19 +114,19 @@ module _ {E : Type 0} (n : Naming E) (set : Shape → Bool) (sheet : Sheet) (h :
 
   module _ (named : Named n sheet) (i : ℕ) (o : Accepted) (there : At h i o) where
     abbrev by : Judge E
-    by = judge n set o.depth sheet o.first o.second
+    by = judge n set o.depth sheet o.what
 
     abbrev ts : List E
-    ts = n.tests sheet o.first o.second
+    ts = n.tests sheet o.what
 
     -- one test, by its class
-    one : (k : ℕ) (es : List E) (x : E) → At (n.tests sheet o.first o.second) k x → Upto i k es → Upto i (suc k) (added (class_of by es x) es x)
+    one : (k : ℕ) (es : List E) (x : E) → At (n.tests sheet o.what) k x → Upto i k es → Upto i (suc k) (added (class_of by es x) es x)
     one k es x p u = go (n.shared sheet x) (struck_at set o.depth (n.shape sheet x)) (has n.same x es) refl refl refl
       where
         it_is : (e : E) (w : Passed n set sheet h e i k) → w.test ≡ x
         it_is e w =
-            only (n.tests sheet o.first o.second) k w.test x
-            (subst (λ (a : Accepted). At (n.tests sheet a.first a.second) k w.test) (only h i w.offer o w.accepted there) w.holds) p
+            only (n.tests sheet o.what) k w.test x
+            (subst (λ (a : Accepted). At (n.tests sheet a.what) k w.test) (only h i w.offer o w.accepted there) w.holds) p
 
         same_one : (e : E) → Passed n set sheet h e i k → e ≡ x
         same_one e w = named.equal e w.test w.same ∙ it_is e w
@@ -143,7 +143,7 @@ module _ {E : Type 0} (n : Naming E) (set : Shape → Bool) (sheet : Sheet) (h :
         go false false false d e f =
             keep named i k es x u f (record { offer = o; test = x; accepted = there; holds = p; same = named.itself x; unshared = d; passed = e }) same_one
 
-    several : (ts : List E) (k l : ℕ) (es : List E) → l ≡ k + length ts → ((j m : ℕ) (x : E) → m ≡ k + j → At ts j x → At (n.tests sheet o.first o.second) m x)
+    several : (ts : List E) (k l : ℕ) (es : List E) → l ≡ k + length ts → ((j m : ℕ) (x : E) → m ≡ k + j → At ts j x → At (n.tests sheet o.what) m x)
         → Upto i k es → Upto i l (listed_after by es ts)
     several [] k l es e f u = subst (λ (m : ℕ). Upto i m es) (same k l e) u
       where
@@ -154,10 +154,10 @@ module _ {E : Type 0} (n : Naming E) (set : Shape → Bool) (sheet : Sheet) (h :
         (one k es x (f zero k x (omega arith) refl) u)
 
     -- all tests of the offer
-    pub offer : (es : List E) → Upto i 0 es → Upto (suc i) 0 (listed_after by es (n.tests sheet o.first o.second))
+    pub offer : (es : List E) → Upto i 0 es → Upto (suc i) 0 (listed_after by es (n.tests sheet o.what))
     offer es u =
         turn i (length ts) (listed_after by es ts) (several ts 0 (length ts) es (omega arith) (λ j m x e s. subst (λ (l : ℕ). At ts l x) (same j m e) s) u)
-        (λ e q w. below ts q w.test (subst (λ (a : Accepted). At (n.tests sheet a.first a.second) q w.test) (only h i w.offer o w.accepted there) w.holds))
+        (λ e q w. below ts q w.test (subst (λ (a : Accepted). At (n.tests sheet a.what) q w.test) (only h i w.offer o w.accepted there) w.holds))
       where
         same : (j m : ℕ) → m ≡ 0 + j → j ≡ m
         same j m e = omega arith

@@ -1,5 +1,5 @@
 -- What the tests of one kind and their list owe, at the end of a run.
-use Rattle.std.proofs.Common.{◌≡◌, ℕ, ◌+◌, ◌≤◌, Bool, true, false, List, length, sym, ◌∙◌, subst₂, inl, ⊎_elim, arith}
+use Rattle.std.proofs.Common.{◌≡◌, ℕ, ◌+◌, ◌≤◌, Bool, true, false, List, length, sym, ◌∙◌, inl, ⊎_elim, arith}
 use Rattle.std.proofs.lemmas.Bool.{cases_Bool, both_ways, false_from_ne_true}
 use Rattle.motion.specs.declared.shapes.Shape.{Shape}
 use Rattle.motion.specs.Laws.{Lawful, InReach, Apart}
@@ -38,7 +38,7 @@ module _ {E : Type 0} (n : Naming E) (set : Shape → Bool) (law : Lawful set) (
           order = λ k l x y s t b. u.order k l x y s t b;
         }
       where
-        stays : (i j : ℕ) (o : Accepted) (e : E) → At h i o → At (n.tests sheet o.first o.second) j e → n.shared sheet e ≡ false → has n.same e es ≡ false
+        stays : (i j : ℕ) (o : Accepted) (e : E) → At h i o → At (n.tests sheet o.what) j e → n.shared sheet e ≡ false → has n.same e es ≡ false
             → Apart (n.shape sheet e)
         stays i j o e a b c d =
             ⊎_elim (λ t. (struck-there o.depth e (shallow i o a) (reached i o a) t).apart) (λ f. absurd (both_ways (has n.same e es) d (listed_one f))) (cases_Bool (struck_at set o.depth (n.shape sheet e)))
@@ -49,9 +49,9 @@ module _ {E : Type 0} (n : Naming E) (set : Shape → Bool) (law : Lawful set) (
     -- what another run lists, by a set that agrees
     module _ (set' : Shape → Bool) (same : Agree set set') (other : List Accepted) (shallow' : (i : ℕ) (o : Accepted) → At other i o → o.depth ≤ 6)
         (others : List E) (v : Upto n set' sheet other (length other) 0 others) (answered : Answered h other) where
-      -- the same two faces, offered here
+      -- what is alike, offered here
       passed-as : (e : E) (i j : ℕ) (w : Passed n set' sheet other e i j) (k l : ℕ) (p : Accepted) → At h k p → p.depth ≤ w.offer.depth
-          → At (n.tests sheet p.first p.second) l w.test → has n.same e es ≡ true
+          → At (n.tests sheet p.what) l w.test → has n.same e es ≡ true
       passed-as e i j w k l p a c t =
           all-passed e k l (record { offer = p; test = w.test; accepted = a; holds = t; same = w.same; unshared = w.unshared; passed = false_from_ne_true (struck_at set p.depth (n.shape sheet w.test)) not-struck })
         where
@@ -72,12 +72,8 @@ module _ {E : Type 0} (n : Naming E) (set : Shape → Bool) (law : Lawful set) (
       passed-here : (e : E) (i j : ℕ) → Passed n set' sheet other e i j → has n.same e es ≡ true
       passed-here e i j w =
           let (k, (p, (a, b, c))) = answered i w.offer w.accepted in
-          ⊎_elim
-          (λ (x, y). passed-as e i j w k j p a c (subst₂ (λ (f g : ℕ). At (n.tests sheet f g) j w.test) (sym x) (sym y) w.holds))
-          (λ (x, y).
-          let (l, t) = named.turned w.offer.first w.offer.second j w.test w.holds w.unshared in
-          passed-as e i j w k l p a c (subst₂ (λ (f g : ℕ). At (n.tests sheet f g) l w.test) (sym x) (sym y) t))
-          b
+          let (l, t) = named.turned w.offer.what p.what b j w.test w.holds w.unshared in
+          passed-as e i j w k l p a c t
 
       pub covers : Covers n.same es others
       covers e t = let (i, (j, (w, b))) = v.listed e t in passed-here e i j w

@@ -1,8 +1,6 @@
 pub mod Held
-pub mod Finding
 pub mod ByRules
 pub mod Going
-pub mod Extending
 pub mod Offering
 pub mod Working
 pub mod Standing
@@ -11,13 +9,7 @@ pub mod NamedVf
 pub mod NamedEe
 pub mod Befores
 pub mod Gathering
-pub mod Running
-pub mod RunDepths
-pub mod RunCounts
-pub mod RunLists
 pub mod Agreeing
 pub mod Keeping
+pub mod Moments
 pub mod Claiming
-pub mod RunKept
-pub mod RunInside
-pub mod Openings

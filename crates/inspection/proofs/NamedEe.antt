@@ -1,9 +1,10 @@
 -- The names of tests of an edge against an edge.
-use Rattle.std.proofs.Common.{◌≡◌, ℕ, zero, suc, ◌+◌, Bool, true, false, cond, ◌&&◌, ◌||◌, ◌==◌, nat_lt, List, [], ◌∷◌, length, sym, refl, ap, ◌∙◌, subst, ⊎_elim, arith, eq-eqb, eqb-true, ltb-true, ltb-false}
+use Rattle.std.proofs.Common.{◌≡◌, ℕ, zero, suc, ◌+◌, Bool, true, false, cond, ◌&&◌, ◌||◌, ◌==◌, nat_lt, List, [], ◌∷◌, length, sym, refl, ap, ◌∙◌, subst, subst₂, ⊎_elim, arith, eq-eqb, eqb-true, ltb-true, ltb-false}
 use Rattle.std.proofs.lemmas.Bool.{and_parts, and_from, or_left, both_ways}
 use Rattle.inspection.specs.declared.names.EeName.{EeName}
 use Rattle.inspection.specs.declared.names.Edge.{Edge}
 use Rattle.inspection.specs.Names.{ee_same, ee_shared, ee_name_of, meet}
+use Rattle.inspection.specs.Offerings.{Offering, Faces, Alike}
 use Rattle.inspection.specs.Sheets.{Sheet, face_at}
 use Rattle.inspection.specs.Pairs.{edges, edge_against, edges_against}
 use Rattle.inspection.specs.Tests.{ee_naming}
@@ -88,6 +89,15 @@ edges-turned es fs k x p u =
     let s = swapped m.e m.f (ap ee_shared m.name ∙ u) in
     (l, subst (λ (y : EeName). At (edges_against fs es) l y) (s ∙ m.name) q)
 
+ee-turned : (sheet : Sheet) (o p : Offering) → Alike o p → (j : ℕ) (x : EeName) → At (ee_naming.tests sheet o) j x → ee_naming.shared sheet x ≡ false → (i : ℕ) × At (ee_naming.tests sheet p) i x
+ee-turned sheet (Faces f g) (Faces k l) a j x p u =
+    ⊎_elim
+    (λ (y, z). (j, subst₂ (λ (f g : ℕ). At (ee_naming.tests sheet (Faces f g)) j x) y z p))
+    (λ (y, z).
+    let (i, q) = edges-turned (edges (face_at sheet f)) (edges (face_at sheet g)) j x p u in
+    (i, subst₂ (λ (f g : ℕ). At (ee_naming.tests sheet (Faces f g)) i x) z y q))
+    a
+
 pub ee_named : (sheet : Sheet) → Named ee_naming sheet
 ee_named sheet =
     record {
@@ -95,5 +105,5 @@ ee_named sheet =
       equal = ee_equal;
       scale = λ x. refl;
       valid = λ r x. (omega arith, r x.l, r x.k, r x.u, r x.v);
-      turned = λ f g j x p u. edges-turned (edges (face_at sheet f)) (edges (face_at sheet g)) j x p u;
+      turned = ee-turned sheet;
     }

@@ -1,6 +1,7 @@
 -- What the names of both kinds of tests have in common.
 use Rattle.std.proofs.Common.{◌≡◌, ℕ, true, false}
 use Rattle.motion.specs.Laws.{Valid, InReach}
+use Rattle.inspection.specs.Offerings.{Offering, Alike}
 use Rattle.inspection.specs.Sheets.{Sheet, point_at}
 use Rattle.inspection.specs.Tests.{Naming}
 use Rattle.inspection.specs.Lists.{At}
@@ -10,5 +11,5 @@ pub record Named {E : Type 0} (n : Naming E) (sheet : Sheet) : Type 0 where
   pub equal : (x y : E) → n.same x y ≡ true → x ≡ y
   pub scale : (x : E) → (n.shape sheet x).scale ≡ 0
   pub valid : ((k : ℕ) → InReach 0 (point_at sheet k)) → (x : E) → Valid (n.shape sheet x)
-  -- two faces in the other order have the same tests
-  pub turned : (f g j : ℕ) (x : E) → At (n.tests sheet f g) j x → n.shared sheet x ≡ false → (k : ℕ) × At (n.tests sheet g f) k x
+  -- what is alike has the same tests
+  pub turned : (o p : Offering) → Alike o p → (j : ℕ) (x : E) → At (n.tests sheet o) j x → n.shared sheet x ≡ false → (k : ℕ) × At (n.tests sheet p) k x

@@ -11,6 +11,7 @@ use Rattle.inspection.specs.declared.requests.Request.{Request}
 use Rattle.inspection.specs.declared.requests.Request.TheVariants.{SetDepth, Offer, VfWindow, EeWindow}
 use Rattle.inspection.specs.declared.requests.Answer.{Answer}
 use Rattle.inspection.specs.declared.requests.Answer.TheVariants.{DepthSet, Offered, Window}
+use Rattle.inspection.specs.Offerings.{Offering, Faces}
 use Rattle.inspection.specs.Sheets.{Sheet, sheet_in}
 use Rattle.inspection.specs.declared.names.VfName.{VfName}
 use Rattle.inspection.specs.declared.names.EeName.{EeName}
@@ -18,34 +19,20 @@ use Rattle.inspection.specs.Lists.{Held}
 use Rattle.inspection.specs.States.{Core, State, at_depth, start}
 use Rattle.inspection.specs.Offers.{Offered as OfferAnswered}
 use Rattle.inspection.specs.Runs.{Accepted, history_after, Run, opened, depth_set, offered, asked, DepthSet as DepthAnswered}
-use Rattle.motion.specs.Laws.{Lawful}
-use Rattle.inspection.specs.Claims.{Claim}
-use Rattle.inspection.proofs.Claiming.{claim}
 use Rattle.inspection.specs.Requests.{Answered, Steps, history}
 
--- ---- what a step leaves of the draft and the depth
+-- ---- what a step leaves of the depth
 set-depth : (b : Bool) (k : ℕ) (c : Core) → (cond b (at_depth k c) c).depth ≡ cond b k c.depth
 set-depth true k c = refl
 set-depth false k c = refl
-
-set-draft : (b : Bool) (k : ℕ) (c : Core) → (cond b (at_depth k c) c).draft ≡ c.draft
-set-draft true k c = refl
-set-draft false k c = refl
 
 module _ (set : Shape → Bool) (ps : List Point) (fs : List Face) where
   depth-after : (s t : State) (k : ℕ) (r : Result (Unit {0}) OpeningFault) → DepthAnswered k s.core r t.core → t.core.depth ≡ cond (is_ok r) k s.core.depth
   depth-after s t k r a = ap (λ (c : Core). c.depth) a.core ∙ set-depth (is_ok r) k s.core
 
-  pub draft-after : (s t : State) (k : ℕ) (r : Result (Unit {0}) OpeningFault) → DepthAnswered k s.core r t.core → t.core.draft ≡ s.core.draft
-  draft-after s t k r a = ap (λ (c : Core). c.draft) a.core ∙ set-draft (is_ok r) k s.core
-
-  offer-depth : (f g : ℕ) (s t : State) (r : Result (Unit {0}) OfferFault) → OfferAnswered set ps fs f g s r t → t.core.depth ≡ s.core.depth
-  offer-depth f g s t (Ok u) a = ap (λ (x : State). x.core.depth) a.state
-  offer-depth f g s t (Err e) a = ap (λ (x : State). x.core.depth) a.state
-
-  pub offer-draft : (f g : ℕ) (s t : State) (r : Result (Unit {0}) OfferFault) → OfferAnswered set ps fs f g s r t → t.core.draft ≡ s.core.draft
-  offer-draft f g s t (Ok u) a = ap (λ (x : State). x.core.draft) a.state
-  offer-draft f g s t (Err e) a = ap (λ (x : State). x.core.draft) a.state
+  offer-depth : (o : Offering) (s t : State) (r : Result (Unit {0}) OfferFault) → OfferAnswered set ps fs o s r t → t.core.depth ≡ s.core.depth
+  offer-depth o s t (Ok u) a = ap (λ (x : State). x.core.depth) a.state
+  offer-depth o s t (Err e) a = ap (λ (x : State). x.core.depth) a.state
 
   -- ---- one step more of a run
   module _ (d : Draft) where
@@ -53,7 +40,7 @@ module _ (set : Shape → Bool) (ps : List Point) (fs : List Face) where
     sheet = sheet_in d ps fs
 
     abbrev Runs : List Accepted → State → Type 0
-    Runs = Run set sheet
+    Runs = Run set d sheet
 
     abbrev Ends : List Accepted → List Request → List Answer → State → State → Type 0
     Ends h qs rs s t = Runs (h ++ history s.core.depth qs rs) t
@@ -66,47 +53,47 @@ module _ (set : Shape → Bool) (ps : List Point) (fs : List Face) where
     by-depth h k r qs rs s u t a e = subst (λ (m : ℕ). Runs (h ++ history m qs rs) t) (depth-after s u k r a) e
 
     by-offer : (h : List Accepted) (f g : ℕ) (x : Result (Unit {0}) OfferFault) (qs : List Request) (rs : List Answer) (s u t : State)
-        → OfferAnswered set ps fs f g s x u → Ends (history_after h f g s.core.depth x) qs rs u t → Ends h (Offer f g ∷ qs) (Offered x ∷ rs) s t
+        → OfferAnswered set ps fs (Faces f g) s x u → Ends (history_after h (Faces f g) s.core.depth x) qs rs u t → Ends h (Offer f g ∷ qs) (Offered x ∷ rs) s t
     by-offer h f g (Ok v) qs rs s u t a e =
-        let o : Accepted = record { first = f; second = g; depth = s.core.depth } in
+        let o : Accepted = record { what = Faces f g; depth = s.core.depth } in
         subst (λ (k : List Accepted). Runs k t) (append_assoc h (o ∷ []) (history s.core.depth qs rs))
-        (subst (λ (m : ℕ). Runs ((h ++ (o ∷ [])) ++ history m qs rs) t) (offer-depth f g s u (Ok v) a) e)
-    by-offer h f g (Err v) qs rs s u t a e = subst (λ (m : ℕ). Runs (h ++ history m qs rs) t) (offer-depth f g s u (Err v) a) e
+        (subst (λ (m : ℕ). Runs ((h ++ (o ∷ [])) ++ history m qs rs) t) (offer-depth (Faces f g) s u (Ok v) a) e)
+    by-offer h f g (Err v) qs rs s u t a e = subst (λ (m : ℕ). Runs (h ++ history m qs rs) t) (offer-depth (Faces f g) s u (Err v) a) e
 
     same-depth : (h : List Accepted) (qs : List Request) (rs : List Answer) (s u t : State) → u ≡ s → Ends h qs rs u t → Ends h qs rs s t
     same-depth h qs rs s u t e r = subst (λ (x : State). Ends h qs rs x t) e r
 
-    pub worked-runs : (h : List Accepted) (qs : List Request) (rs : List Answer) (s t : State) → Runs h s → s.core.draft ≡ d → Steps set ps fs qs rs s t → Ends h qs rs s t
-    worked-runs h [] [] s t r e w = here h s t r w
-    worked-runs h [] (a ∷ rs) s t r e w = absurd w
-    worked-runs h (q ∷ qs) [] s t r e w = absurd w
-    worked-runs h (SetDepth k ∷ qs) (DepthSet x ∷ rs) s t r e w =
+    pub worked-runs : (h : List Accepted) (qs : List Request) (rs : List Answer) (s t : State) → Runs h s → Steps set ps fs qs rs s t → Ends h qs rs s t
+    worked-runs h [] [] s t r w = here h s t r w
+    worked-runs h [] (a ∷ rs) s t r w = absurd w
+    worked-runs h (q ∷ qs) [] s t r w = absurd w
+    worked-runs h (SetDepth k ∷ qs) (DepthSet x ∷ rs) s t r w =
         let u : State = w.0 in
         let a = w.1.0 in
         by-depth h k x qs rs s u t a.0
-        (worked-runs h qs rs u t (depth_set k x u r a.0 a.1 a.2) (draft-after s u k x a.0 ∙ e) w.1.1)
-    worked-runs h (SetDepth k ∷ qs) (Offered x ∷ rs) s t r e w = absurd w.1.0
-    worked-runs h (SetDepth k ∷ qs) (Window x ∷ rs) s t r e w = absurd w.1.0
-    worked-runs h (Offer f g ∷ qs) (Offered x ∷ rs) s t r e w =
+        (worked-runs h qs rs u t (depth_set k x u r a.0 a.1 a.2) w.1.1)
+    worked-runs h (SetDepth k ∷ qs) (Offered x ∷ rs) s t r w = absurd w.1.0
+    worked-runs h (SetDepth k ∷ qs) (Window x ∷ rs) s t r w = absurd w.1.0
+    worked-runs h (Offer f g ∷ qs) (Offered x ∷ rs) s t r w =
         let u : State = w.0 in
         let a = w.1.0 in
         by-offer h f g x qs rs s u t a
-        (worked-runs (history_after h f g s.core.depth x) qs rs u t
-        (offered ps fs f g x (history_after h f g s.core.depth x) u r (λ b. ap (λ (k : Draft). sheet_in k ps fs) e) a refl) (offer-draft f g s u x a ∙ e) w.1.1)
-    worked-runs h (Offer f g ∷ qs) (DepthSet x ∷ rs) s t r e w = absurd w.1.0
-    worked-runs h (Offer f g ∷ qs) (Window x ∷ rs) s t r e w = absurd w.1.0
-    worked-runs h (VfWindow i ∷ qs) (Window x ∷ rs) s t r e w =
+        (worked-runs (history_after h (Faces f g) s.core.depth x) qs rs u t
+        (offered ps fs (Faces f g) x (history_after h (Faces f g) s.core.depth x) u r (λ b. refl) a refl) w.1.1)
+    worked-runs h (Offer f g ∷ qs) (DepthSet x ∷ rs) s t r w = absurd w.1.0
+    worked-runs h (Offer f g ∷ qs) (Window x ∷ rs) s t r w = absurd w.1.0
+    worked-runs h (VfWindow i ∷ qs) (Window x ∷ rs) s t r w =
         let u : State = w.0 in
         let a = w.1.0 in
-        same-depth h qs rs s u t a.1 (worked-runs h qs rs u t (asked u r a.1) (ap (λ (y : State). y.core.draft) a.1 ∙ e) w.1.1)
-    worked-runs h (VfWindow i ∷ qs) (DepthSet x ∷ rs) s t r e w = absurd w.1.0
-    worked-runs h (VfWindow i ∷ qs) (Offered x ∷ rs) s t r e w = absurd w.1.0
-    worked-runs h (EeWindow i ∷ qs) (Window x ∷ rs) s t r e w =
+        same-depth h qs rs s u t a.1 (worked-runs h qs rs u t (asked u r a.1) w.1.1)
+    worked-runs h (VfWindow i ∷ qs) (DepthSet x ∷ rs) s t r w = absurd w.1.0
+    worked-runs h (VfWindow i ∷ qs) (Offered x ∷ rs) s t r w = absurd w.1.0
+    worked-runs h (EeWindow i ∷ qs) (Window x ∷ rs) s t r w =
         let u : State = w.0 in
         let a = w.1.0 in
-        same-depth h qs rs s u t a.1 (worked-runs h qs rs u t (asked u r a.1) (ap (λ (y : State). y.core.draft) a.1 ∙ e) w.1.1)
-    worked-runs h (EeWindow i ∷ qs) (DepthSet x ∷ rs) s t r e w = absurd w.1.0
-    worked-runs h (EeWindow i ∷ qs) (Offered x ∷ rs) s t r e w = absurd w.1.0
+        same-depth h qs rs s u t a.1 (worked-runs h qs rs u t (asked u r a.1) w.1.1)
+    worked-runs h (EeWindow i ∷ qs) (DepthSet x ∷ rs) s t r w = absurd w.1.0
+    worked-runs h (EeWindow i ∷ qs) (Offered x ∷ rs) s t r w = absurd w.1.0
 
   -- ---- one request more, worked at the end
   pub worked-more : (qs : List Request) (rs : List Answer) (q : Request) (a : Answer) (s t u : State)
@@ -128,9 +115,7 @@ pub rest-more : {A : Type 0} (xs ys : List A) (i : ℕ) (a : A) → drop i xs �
 rest-more xs ys i a e = drop-set-lt (i + 1) xs i a (omega arith) ∙ sym (drop-drop 1 i xs) ∙ ap (drop 1) e ∙ drop-drop 1 i ys
 
 -- ---- an opened inspection that was worked
-module _ (set : Shape → Bool) (law : Lawful set) (ps : List Point) (fs : List Face) (d : Draft) (k : ℕ) where
-  pub claimed : (vf : Held VfName) (ee : Held EeName) (qs : List Request) (rs : List Answer) (t : State) → k ≤ 6
-      → Steps set ps fs qs rs (start d k vf ee) t → Claim set (sheet_in d ps fs) (history k qs rs) t
-  claimed vf ee qs rs t h w =
-      claim law (sheet_in d ps fs) (history k qs rs) t
-      (worked-runs set ps fs d [] qs rs (start d k vf ee) t (opened (record { depth = h; core = refl; vf = refl; ee = refl })) refl w)
+pub runs-on : (set : Shape → Bool) (ps : List Point) (fs : List Face) (d : Draft) (k : ℕ) (vf : Held VfName) (ee : Held EeName) (qs : List Request) (rs : List Answer) (t : State) → k ≤ 6
+    → Steps set ps fs qs rs (start d k vf ee) t → Run set d (sheet_in d ps fs) (history k qs rs) t
+runs-on set ps fs d k vf ee qs rs t h w =
+    worked-runs set ps fs d [] qs rs (start d k vf ee) t (opened (record { depth = h; core = refl; vf = refl; ee = refl })) w

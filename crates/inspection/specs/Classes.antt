@@ -6,6 +6,7 @@ use Rattle.inspection.specs.declared.classes.Class.{Class}
 use Rattle.inspection.specs.declared.classes.Class.TheVariants.{Kept, Struck, Shared, Repeated}
 use Rattle.inspection.specs.declared.classes.Tally.{Tally}
 use Rattle.inspection.specs.Sheets.{Sheet}
+use Rattle.inspection.specs.Tests.{Naming}
 use Rattle.inspection.specs.Lists.{has}
 
 -- one more of a class
@@ -26,8 +27,8 @@ pub record Judge (E : Type 0) : Type 0 where
   pub same : E → E → Bool
 
 -- by the sheet's rows, and by a filter's set at a depth
-abbrev pub judging : {E : Type 0} → (Sheet → E → Bool) → (Sheet → E → Shape) → (E → E → Bool) → (Shape → Bool) → ℕ → Sheet → Judge E
-judging shared shape same set d s = record { shared = shared s; struck = λ e. struck_at set d (shape s e); same = same }
+abbrev pub judging : {E : Type 0} → Naming E → (E → E → Bool) → (Shape → Bool) → ℕ → Sheet → Judge E
+judging n same set d s = record { shared = n.shared s; struck = λ e. struck_at set d (n.shape s e); same = same }
 
 -- what is listed after a test of this class: a kept one is added at the end
 abbrev pub added : {E : Type 0} → Class → List E → E → List E

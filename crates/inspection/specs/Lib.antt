@@ -3,8 +3,10 @@ pub mod Names
 pub mod Pairs
 pub mod Sheets
 pub mod Lists
+pub mod Offerings
 pub mod Tests
 pub mod Classes
+pub mod Judges
 pub mod Faults
 pub mod States
 pub mod Offers

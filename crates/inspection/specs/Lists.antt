@@ -1,41 +1,30 @@
 -- What a list holds.
-use Rattle.std.specs.Prelude.{◌≡◌, ℕ, zero, suc, Bool, false, ◌||◌, List, [], ◌∷◌, ◌++◌, length, take, drop, Some, None, Option}
+use Rattle.std.specs.Prelude.{◌≡◌, ℕ, ◌-◌, zero, suc, Bool, List, [], ◌∷◌, ◌++◌, length, take, drop}
+use Rattle.std.specs.List.{list_any}
 use Rattle.inspection.specs.declared.lists.List.{List as Listing}
 
--- a table, and how many of its first places are entries
+-- its entries, the rest of its table, and who lent the table
 pub record Held (E : Type 0) : Type 0 where
-  pub table : List E
-  pub len : ℕ
-
--- the whole table
-abbrev pub table : {E : Type 0} → Listing E → List E
-table l = l.places.now
+  pub entries : List E
+  pub rest : List E
+  pub lender : ℕ
 
 abbrev pub held : {E : Type 0} → Listing E → Held E
-held l = record { table = l.places.now; len = l.len }
-
-abbrev pub listed : {E : Type 0} → Held E → List E
-listed h = take h.len h.table
+held l = record { entries = take l.len l.places.now; rest = drop l.len l.places.now; lender = l.places.ghost_name }
 
 abbrev pub entries : {E : Type 0} → Listing E → List E
-entries l = listed (held l)
+entries l = (held l).entries
 
--- these entries, and then the old rest of the table
+-- grown to these entries
 abbrev pub filled : {E : Type 0} → List E → Held E → Held E
-filled es h = record { table = es ++ drop (length es) h.table; len = length es }
+filled es h = record { entries = es; rest = drop (length es - length h.entries) h.rest; lender = h.lender }
 
 abbrev pub emptied : {E : Type 0} → Held E → Held E
-emptied h = record { table = h.table; len = 0 }
+emptied h = record { entries = []; rest = h.entries ++ h.rest; lender = h.lender }
 
 -- some entry is the same
 abbrev pub has : {E : Type 0} → (E → E → Bool) → E → List E → Bool
-has same e [] = false
-has same e (x ∷ xs) = same e x || has same e xs
-
-abbrev pub entry_at : {E : Type 0} → List E → ℕ → Option E
-entry_at [] i = None
-entry_at (x ∷ xs) zero = Some x
-entry_at (x ∷ xs) (suc i) = entry_at xs i
+has same e es = list_any (same e) es
 
 -- x stands at place i
 abbrev pub At : {A : Type 0} → List A → ℕ → A → Type 0

@@ -9,6 +9,7 @@ use Rattle.motion.specs.declared.shapes.Shape.{Shape}
 use Rattle.inspection.specs.declared.faults.OpeningFault.{OpeningFault}
 use Rattle.inspection.specs.declared.faults.OfferFault.{OfferFault}
 use Rattle.inspection.specs.Faults.{notice_at, notice_of_opening}
+use Rattle.inspection.specs.Offerings.{Offering}
 use Rattle.inspection.specs.Sheets.{Sheet, sheet_in}
 use Rattle.inspection.specs.States.{Core, State, fresh, at_depth}
 use Rattle.inspection.specs.Offers.{short, Offered}
@@ -17,12 +18,12 @@ use Rattle.inspection.specs.Offers.{short, Offered}
 abbrev pub depth_checks : ℕ → List Check
 depth_checks k = record { fits = nat_lt 6 k; tells = notice_at 15 Opening k } ∷ []
 
--- a draft and a depth that are not refused, with emptied lists
-pub record Opened (s : State) : Type 0 where
+-- of this draft, at a depth that is not refused, with emptied lists
+pub record Opened (d : Draft) (s : State) : Type 0 where
   pub depth : s.core.depth ≤ 6
-  pub core : s.core ≡ fresh s.core.draft s.core.depth
-  pub vf : s.vf.len ≡ 0
-  pub ee : s.ee.len ≡ 0
+  pub core : s.core ≡ fresh d s.core.depth
+  pub vf : s.vf.entries ≡ []
+  pub ee : s.ee.entries ≡ []
 
 pub record DepthSet (k : ℕ) (c : Core) (r : Result (Unit {0}) OpeningFault) (d : Core) : Type 0 where
   pub answer : told notice_of_opening r ≡ answer (depth_checks k) tt
@@ -31,26 +32,25 @@ pub record DepthSet (k : ℕ) (c : Core) (r : Result (Unit {0}) OpeningFault) (d
 -- ---- runs
 -- an accepted offer, with the depth then set
 pub record Accepted : Type 0 where
-  pub first : ℕ
-  pub second : ℕ
+  pub what : Offering
   pub depth : ℕ
 
-abbrev pub history_after : List Accepted → ℕ → ℕ → ℕ → Result (Unit {0}) OfferFault → List Accepted
-history_after h f g d (Ok u) = h ++ (record { first = f; second = g; depth = d } ∷ [])
-history_after h f g d (Err e) = h
+abbrev pub history_after : List Accepted → Offering → ℕ → Result (Unit {0}) OfferFault → List Accepted
+history_after h o d (Ok u) = h ++ (record { what = o; depth = d } ∷ [])
+history_after h o d (Err e) = h
 
 -- these tables hold the sheet, as far as its counts go; where one is too short they need agree with nothing
 abbrev pub Brings : Draft → List Point → List Face → Sheet → Type 0
 Brings d ps fs s = short d ps fs ≡ false → sheet_in d ps fs ≡ s
 
--- runs of an inspection with a filter of this set over this sheet, by their accepted offers and the state that they end in
-pub data Run (set : Shape → Bool) (sheet : Sheet) : List Accepted → State → Type 0 where
-  opened : {s : State} → Opened s → Run set sheet [] s
+-- runs of an inspection of this draft with a filter of this set over this sheet, by their accepted offers and the state that they end in
+pub data Run (set : Shape → Bool) (d : Draft) (sheet : Sheet) : List Accepted → State → Type 0 where
+  opened : {s : State} → Opened d s → Run set d sheet [] s
   -- the depth is set, or that is refused
   depth_set : {h : List Accepted} {s : State} (k : ℕ) (r : Result (Unit {0}) OpeningFault) (t : State)
-      → Run set sheet h s → DepthSet k s.core r t.core → t.vf ≡ s.vf → t.ee ≡ s.ee → Run set sheet h t
-  -- two faces are offered, over tables that bring the sheet; they are accepted or refused
-  offered : {h : List Accepted} {s : State} (ps : List Point) (fs : List Face) (f g : ℕ) (r : Result (Unit {0}) OfferFault) (h' : List Accepted) (t : State)
-      → Run set sheet h s → Brings s.core.draft ps fs sheet → Offered set ps fs f g s r t → h' ≡ history_after h f g s.core.depth r → Run set sheet h' t
+      → Run set d sheet h s → DepthSet k s.core r t.core → t.vf ≡ s.vf → t.ee ≡ s.ee → Run set d sheet h t
+  -- something is offered, over tables that bring the sheet; it is accepted or refused
+  offered : {h : List Accepted} {s : State} (ps : List Point) (fs : List Face) (o : Offering) (r : Result (Unit {0}) OfferFault) (h' : List Accepted) (t : State)
+      → Run set d sheet h s → Brings d ps fs sheet → Offered set ps fs o s r t → h' ≡ history_after h o s.core.depth r → Run set d sheet h' t
   -- a question: any call that leaves all of this as it was
-  asked : {h : List Accepted} {s : State} (t : State) → Run set sheet h s → t ≡ s → Run set sheet h t
+  asked : {h : List Accepted} {s : State} (t : State) → Run set d sheet h s → t ≡ s → Run set d sheet h t

@@ -1,5 +1,5 @@
 -- The tests that names stand for, over a sheet.
-use Rattle.std.specs.Prelude.{ℕ, Bool, ◌&&◌, List, length, nat_lt}
+use Rattle.std.specs.Prelude.{Bool, ◌&&◌, List, length, nat_lt}
 use Rattle.sheet.specs.declared.rows.Face.{Face}
 use Rattle.motion.specs.declared.shapes.Kind.TheVariants.{Vf, Ee}
 use Rattle.motion.specs.declared.shapes.Shape.{Shape}
@@ -7,6 +7,7 @@ use Rattle.inspection.specs.declared.names.VfName.{VfName}
 use Rattle.inspection.specs.declared.names.EeName.{EeName}
 use Rattle.inspection.specs.Names.{corner, ee_shared, vf_same, ee_same}
 use Rattle.inspection.specs.Pairs.{vf_tests, ee_tests}
+use Rattle.inspection.specs.Offerings.{Offering, Faces}
 use Rattle.inspection.specs.Sheets.{Sheet, point_at, face_at}
 
 -- the tests, at scale 0
@@ -41,16 +42,26 @@ ee_inside s n =
 
 -- ---- the two kinds of tests, by their names
 pub record Naming (E : Type 0) : Type 0 where
-  -- those of two faces, in their order
-  pub tests : Sheet → ℕ → ℕ → List E
+  -- those of an offer, in their order
+  pub tests : Sheet → Offering → List E
+  -- its numbers are of the sheet
+  pub inside : Sheet → E → Bool
+  -- its features have a point in common
   pub shared : Sheet → E → Bool
   pub shape : Sheet → E → Shape
   pub same : E → E → Bool
 
+abbrev pub vf_tests_of : Sheet → Offering → List VfName
+vf_tests_of s (Faces f g) = vf_tests f (face_at s f) g (face_at s g)
+
+abbrev pub ee_tests_of : Sheet → Offering → List EeName
+ee_tests_of s (Faces f g) = ee_tests (face_at s f) (face_at s g)
+
 abbrev pub vf_naming : Naming VfName
 vf_naming =
     record {
-      tests = λ s f g. vf_tests f (face_at s f) g (face_at s g);
+      tests = vf_tests_of;
+      inside = vf_inside;
       shared = vf_shared;
       shape = vf_shape;
       same = vf_same;
@@ -59,7 +70,8 @@ vf_naming =
 abbrev pub ee_naming : Naming EeName
 ee_naming =
     record {
-      tests = λ s f g. ee_tests (face_at s f) (face_at s g);
+      tests = ee_tests_of;
+      inside = ee_inside;
       shared = λ s n. ee_shared n;
       shape = ee_shape;
       same = ee_same;

@@ -1,5 +1,5 @@
 -- The window of an entry: its checks, in their order, and its answer where none fits.
-use Rattle.std.specs.Prelude.{◌≡◌, ℕ, Bool, false, not, List, [], ◌∷◌, length, Some, None, Option, Result, nat_le}
+use Rattle.std.specs.Prelude.{◌≡◌, ℕ, Bool, false, not, List, [], ◌∷◌, length, Some, None, Option, Result, nat_le, slice_get}
 use Rattle.sheet.specs.Checks.{Check, answer, told}
 use Rattle.sheet.specs.declared.notices.Layer.TheVariants.{Window}
 use Rattle.sheet.specs.declared.rows.Point.{Point}
@@ -9,7 +9,8 @@ use Rattle.motion.specs.Depths.{window_at}
 use Rattle.inspection.specs.declared.faults.WindowFault.{WindowFault}
 use Rattle.inspection.specs.Faults.{notice_at, notice_of_window}
 use Rattle.inspection.specs.Sheets.{Sheet, sheet_in}
-use Rattle.inspection.specs.Lists.{Held, listed, entry_at}
+use Rattle.inspection.specs.Tests.{Naming}
+use Rattle.inspection.specs.Lists.{Held}
 use Rattle.inspection.specs.States.{Core}
 use Rattle.inspection.specs.Offers.{short}
 
@@ -26,15 +27,15 @@ window_of set d shape None = None
 window_of set d shape (Some e) = window_at set d (shape e)
 
 -- of the entry i of a list: what its numbers have to be, and the test that it names
-module _ {E : Type 0} (inside : Sheet → E → Bool) (shape : Sheet → E → Shape) (ps : List Point) (fs : List Face) (c : Core) (h : Held E) (i : ℕ) where
+module _ {E : Type 0} (n : Naming E) (ps : List Point) (fs : List Face) (c : Core) (h : Held E) (i : ℕ) where
   abbrev sheet : Sheet
   sheet = sheet_in c.draft ps fs
 
   abbrev pub window_checks : List Check
   window_checks =
-      asks (short c.draft ps fs) 16 0 ∷ asks (nat_le (length (listed h)) i) 22 i
-      ∷ asks (strays (inside sheet) (entry_at (listed h) i)) 19 i ∷ []
+      asks (short c.draft ps fs) 16 0 ∷ asks (nat_le (length h.entries) i) 22 i
+      ∷ asks (strays (n.inside sheet) (slice_get h.entries i)) 19 i ∷ []
 
   -- the window at the depth now set answers r
   abbrev pub Windowed : (Shape → Bool) → Result (Option (ℕ × ℕ)) WindowFault → Type 0
-  Windowed set r = told notice_of_window r ≡ answer window_checks (window_of set c.depth (shape sheet) (entry_at (listed h) i))
+  Windowed set r = told notice_of_window r ≡ answer window_checks (window_of set c.depth (n.shape sheet) (slice_get h.entries i))

@@ -1,6 +1,7 @@
 //! An inspection of one step of a sheet: the names of its tests, the lists that they stand on, the counts of their classes.
 #![tactic(auto)]
 
+mod among;
 mod classes;
 mod classing;
 mod entries;

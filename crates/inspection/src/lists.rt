@@ -1,12 +1,81 @@
-// `List` alone: its ghost field speaks of the lent slice. What it does stands in lists/calls.rt.
+// Entries in the front of a table that the caller lends.
 ghost use Rattle.std.specs.Prelude.{◌≤◌, length};
 
-mod calls;
+use crate::entries::Entry;
 
-/// Entries in the front of a table that the caller lends.
 #[derive(Drop)]
 pub struct List<'a, E> {
     places: &'a mut [E],
     len: usize,
     ghost fits: { len ≤ length places.now },
+}
+
+impl<'a, E: Entry> List<'a, E> {
+    ghost use Rattle.std.specs.Prelude.{◌≡◌, ◌+◌, ◌++◌, ◌==◌, [], slice_get};
+    ghost use Rattle.inspection.specs.Lists.{held, entries, has, filled, emptied};
+
+    /// An empty list over a table.
+    pub fn new(places: &'a mut [E]) -> List<'a, E>
+        ensures { held result ≡ record { entries = []; rest = places.old; lender = places.entry.ghost_name } }
+    {
+        List { places, len: 0 }
+    }
+
+    /// The entries in their order.
+    pub fn entries(&self) -> &[E]
+        ensures { result.now ≡ entries self.now }
+    {
+        &self.places[..self.len]
+    }
+
+    pub fn len(&self) -> usize
+        ensures { result ≡ length (entries self.now) }
+    {
+        self.len
+    }
+
+    /// Whether the list is empty.
+    pub fn is_empty(&self) -> bool
+        ensures { result ≡ (length (entries self.now) == 0) }
+    {
+        self.len == 0
+    }
+
+    /// How many more entries there is room for.
+    pub fn free(&self) -> usize
+        ensures { result ≡ length (held self.now).rest }
+    {
+        self.places.len() - self.len
+    }
+
+    /// The entry with this number, from 0.
+    pub fn get(&self, i: usize) -> Option<E>
+        ensures { result ≡ slice_get (entries self.now) i }
+    {
+        self.entries().get(i).copied()
+    }
+
+    /// Whether an entry is the same as this one.
+    pub fn holds(&self, e: &E) -> bool
+        ensures { result ≡ has E.same e.now (entries self.now) }
+    {
+        self.entries().iter().any(|x| e.is_same(x))
+    }
+
+    /// No entries; the table is as it was.
+    pub(crate) fn clear(&mut self)
+        ensures { held self.new ≡ emptied (held self.old) }
+    {
+        self.len = 0;
+    }
+
+    /// Puts entries behind those that stand here.
+    pub(crate) fn extend(&mut self, new: &[E])
+        requires { length new.now ≤ length (held self.old).rest }
+        ensures { held self.new ≡ filled (entries self.old ++ new.now) (held self.old) }
+    {
+        let end = self.len + new.len();
+        self.places[self.len..end].copy_from_slice(new);
+        self.len = end;
+    }
 }

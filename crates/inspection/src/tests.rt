@@ -1,10 +1,8 @@
 // The tests that names stand for.
-ghost use Rattle.std.specs.Prelude.{◌≡◌, Bool, refl};
-ghost use Rattle.motion.specs.declared.shapes.Shape.{Shape};
+ghost use Rattle.std.specs.Prelude.{◌≡◌, refl};
 ghost use Rattle.motion.specs.Laws.{InReach};
-ghost use Rattle.inspection.specs.Names.{ee_shared};
 ghost use Rattle.inspection.specs.Sheets.{Sheet, seen};
-ghost use Rattle.inspection.specs.Tests.{corners_inside, vf_inside, vf_shared, vf_shape, ee_inside, ee_shape};
+ghost use Rattle.inspection.specs.Tests.{Naming, corners_inside, vf_naming, ee_naming};
 
 use crate::entries::Entry;
 use crate::names::{EeName, VfName, is_corner};
@@ -15,35 +13,26 @@ use sheet::Face;
 
 /// An entry that names a test of a sheet.
 pub trait TestName: Entry {
-    // its numbers are of the sheet
-    ghost inside: { Sheet → Self → Bool };
-
-    // its features have a point in common
-    ghost shared: { Sheet → Self → Bool };
-
-    ghost shape: { Sheet → Self → Shape };
+    // what such names mean
+    ghost naming: { Naming Self };
 
     /// Whether its numbers are of the sheet.
     fn is_inside(self, rows: Rows<'_>) -> bool
-        ensures { result ≡ inside (seen rows.entry) self };
+        ensures { result ≡ naming.inside (seen rows.entry) self };
 
     /// Whether its features have a point in common.
     fn is_shared(self, rows: Rows<'_>) -> bool
-        ensures { result ≡ shared (seen rows.entry) self };
+        ensures { result ≡ naming.shared (seen rows.entry) self };
 
     /// The test that it names.
     fn test(self, rows: Rows<'_>) -> Test
-        ensures { result.shape ≡ shape (seen rows.entry) self };
+        ensures { result.shape ≡ naming.shape (seen rows.entry) self };
 
-    ghost unscaled: { (s : Sheet) (x : Self) → (shape s x).scale ≡ 0 };
+    ghost unscaled: { (s : Sheet) (x : Self) → (naming.shape s x).scale ≡ 0 };
 }
 
 impl TestName for VfName {
-    ghost inside = { vf_inside };
-
-    ghost shared = { vf_shared };
-
-    ghost shape = { vf_shape };
+    ghost naming = { vf_naming };
 
     ghost unscaled = { λ s x. refl };
 
@@ -68,11 +57,7 @@ impl TestName for VfName {
 }
 
 impl TestName for EeName {
-    ghost inside = { ee_inside };
-
-    ghost shared = { λ s n. ee_shared n };
-
-    ghost shape = { ee_shape };
+    ghost naming = { ee_naming };
 
     ghost unscaled = { λ s x. refl };
 

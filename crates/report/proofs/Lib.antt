@@ -1,5 +1,3 @@
-pub mod Digits
 pub mod Pasting
-pub mod Listing
-pub mod Parts
-pub mod Reported
+pub mod Entries
+pub mod Rows

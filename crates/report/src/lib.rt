@@ -2,10 +2,9 @@
 #![tactic(auto)]
 
 mod faults;
-mod kinds;
-mod line;
-mod lists;
+mod lines;
 mod reporting;
+mod sections;
 
 pub use faults::{Listed, ReportFault};
 pub use reporting::report;

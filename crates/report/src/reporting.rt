@@ -1,20 +1,15 @@
 // The report.
-ghost use Rattle.std.specs.Prelude.{◌≡◌, ◌++◌, true, length, drop, None, is_ok, if◌then◌else◌};
+ghost use Rattle.std.specs.Prelude.{◌≡◌, ◌*◌, ◌≤◌, ◌++◌, length, drop, None, is_ok, if◌then◌else◌, IfOk};
 ghost use Rattle.sheet.specs.Checks.{first_fit, answer, told};
 ghost use Rattle.inspection.specs.Sheets.{sheet_in};
-ghost use Rattle.inspection.specs.Lists.{held};
 ghost use Rattle.inspection.specs.Offers.{short};
-ghost use Rattle.inspection.specs.States.{core_of, state_of, tally_of};
-ghost use Rattle.report.specs.Faults.{place_of, notice_of_report};
-ghost use Rattle.report.specs.Lines.{count_line};
-ghost use Rattle.report.specs.Made.{made};
-ghost use Rattle.report.specs.Reports.{report_text, report_checks};
+ghost use Rattle.inspection.specs.States.{state_of};
+ghost use Rattle.report.specs.Faults.{notice_of_report};
+ghost use Rattle.report.specs.Reports.{report_text, row_checks, report_checks};
 ghost use Rattle.report.specs.Writing.{pasted};
 
-use crate::faults::{Listed, ReportFault};
-use crate::kinds::count_line;
-use crate::line::Line;
-use crate::lists::{put_line, put_lines, room_after_line, room_after_lines};
+use crate::faults::ReportFault;
+use crate::sections::{put_section, section_len};
 use filters::Filter;
 use inspection::{EeName, Inspection, List, VfName, WindowFault};
 use sheet::{Face, Point};
@@ -37,7 +32,9 @@ pub fn report<F: Filter>(
         let text = report_text (F.Filter.struck inspection.now.filter) (sheet_in state.core.draft points.now faces.now) state in
         output.new ≡ (if is_ok result then text ++ drop (length text) output.old else output.old) }
 {
-    check(inspection, points, faces, vf, ee, output.len())?;
+    if report_len(inspection, points, faces, vf, ee)? > output.len() {
+        return Err(ReportFault::OutputTooShort);
+    }
     Ok(write(inspection, points, faces, vf, ee, output))
 }
 
@@ -56,43 +53,24 @@ fn is_short<F: Filter>(
     }
 }
 
-/// The line of the counts of a list's tests.
-fn counts<F: Filter>(
-    inspection: &Inspection<F>,
-    vf: &List<'_, VfName>,
-    ee: &List<'_, EeName>,
-    which: Listed,
-) -> Line
-    ensures { made result ≡ count_line which (tally_of (place_of which) (core_of inspection.now)) }
-{
-    let counts = inspection.findings(vf, ee);
-    match which {
-        Listed::Vf => count_line(which, counts.vf),
-        Listed::Ee => count_line(which, counts.ee),
-    }
-}
-
-/// The checks of a report, for an output of so many bytes.
-fn check<F: Filter>(
+/// How long the report is, where no row of a table is lacking and no entry strays.
+fn report_len<F: Filter>(
     inspection: &Inspection<F>,
     points: &[Point],
     faces: &[Face],
     vf: &List<'_, VfName>,
     ee: &List<'_, EeName>,
-    places: usize,
-) -> Result<(), ReportFault>
-    ensures { told notice_of_report result ≡ answer (report_checks (F.Filter.struck inspection.now.filter) points.now faces.now (state_of inspection.now vf.now ee.now) places) tt }
+) -> Result<usize, ReportFault>
+    ensures { let state = state_of inspection.now vf.now ee.now in
+        told notice_of_report result ≡ answer (row_checks points.now faces.now state) (length (report_text (F.Filter.struck inspection.now.filter) (sheet_in state.core.draft points.now faces.now) state)) }
 {
     if is_short(inspection, points, faces, vf) {
         return Err(ReportFault::TableTooShort);
     }
-    let first = room_after_lines(inspection, points, faces, vf, Listed::Vf, Some(places))?;
-    let second = room_after_line(first, counts(inspection, vf, ee, Listed::Vf).len());
-    let third = room_after_lines(inspection, points, faces, ee, Listed::Ee, second)?;
-    match room_after_line(third, counts(inspection, vf, ee, Listed::Ee).len()) {
-        Some(_) => Ok(()),
-        None => Err(ReportFault::OutputTooShort),
-    }
+    let counts = inspection.findings(vf, ee);
+    let first = section_len(inspection, points, faces, vf, counts.vf)?;
+    let second = section_len(inspection, points, faces, ee, counts.ee)?;
+    Ok(first + second)
 }
 
 /// Puts the report into the front of the output, and answers its length.
@@ -104,12 +82,15 @@ fn write<F: Filter>(
     ee: &List<'_, EeName>,
     output: &mut [u8],
 ) -> usize
-    requires { first_fit (report_checks (F.Filter.struck inspection.now.filter) points.now faces.now (state_of inspection.now vf.now ee.now) (length output.old)) ≡ None }
-    ensures len { result ≡ length (report_text (F.Filter.struck inspection.now.filter) (sheet_in inspection.now.draft points.now faces.now) (state_of inspection.now vf.now ee.now)) }
-    ensures output { output.new ≡ pasted output.old 0 (report_text (F.Filter.struck inspection.now.filter) (sheet_in inspection.now.draft points.now faces.now) (state_of inspection.now vf.now ee.now)) }
+    requires rows { first_fit (row_checks points.now faces.now (state_of inspection.now vf.now ee.now)) ≡ None }
+    requires room { let state = state_of inspection.now vf.now ee.now in
+        length (report_text (F.Filter.struck inspection.now.filter) (sheet_in state.core.draft points.now faces.now) state) ≤ length output.old }
+    ensures len { let state = state_of inspection.now vf.now ee.now in
+        result ≡ length (report_text (F.Filter.struck inspection.now.filter) (sheet_in state.core.draft points.now faces.now) state) }
+    ensures output { let state = state_of inspection.now vf.now ee.now in
+        output.new ≡ pasted output.old 0 (report_text (F.Filter.struck inspection.now.filter) (sheet_in state.core.draft points.now faces.now) state) }
 {
-    let first = put_lines(inspection, points, faces, vf, output, 0);
-    let second = put_line(output, first, &counts(inspection, vf, ee, Listed::Vf));
-    let third = put_lines(inspection, points, faces, ee, output, second);
-    put_line(output, third, &counts(inspection, vf, ee, Listed::Ee))
+    let counts = inspection.findings(vf, ee);
+    let end = put_section(inspection, points, faces, vf, counts.vf, output, 0);
+    put_section(inspection, points, faces, ee, counts.ee, output, end)
 }

@@ -1,10 +1,10 @@
 // Opening, and setting the depth later.
-ghost use Rattle.std.specs.Prelude.{◌≡◌, ◌<◌, is_ok, nat_lt, MatchResult, if◌then◌else◌};
+ghost use Rattle.std.specs.Prelude.{◌≡◌, ◌<◌, is_ok, nat_lt, MatchResult, IfOk, if◌then◌else◌};
 ghost use Rattle.sheet.specs.Checks.{answer, told};
 ghost use Rattle.inspection.specs.Faults.{notice_of_opening};
 ghost use Rattle.inspection.specs.Lists.{held, emptied};
-ghost use Rattle.inspection.specs.States.{core_of, fresh};
-ghost use Rattle.inspection.specs.Runs.{depth_checks, DepthSet};
+ghost use Rattle.inspection.specs.States.{core_of, state_of, fresh};
+ghost use Rattle.inspection.specs.Runs.{depth_checks, Opened, DepthSet};
 ghost use Rattle.inspection.specs.declared.faults.OpeningFault.TheVariants.{TooDeep};
 
 use super::Inspection;
@@ -33,10 +33,9 @@ impl<F: Filter> Inspection<F> {
         ee: &mut List<'_, EeName>,
     ) -> Result<Inspection<F>, Refused<F>>
         ensures opened { MatchResult result (λ i. (core_of i ≡ fresh draft depth) × (i.filter ≡ filter)) (λ x. (6 < depth) × (x.fault ≡ TooDeep depth) × (x.draft ≡ draft) × (x.filter ≡ filter)) }
+        ensures begins { IfOk result (λ i. Opened draft (state_of i vf.new ee.new)) }
         ensures vf { held vf.new ≡ (if is_ok result then emptied (held vf.old) else held vf.old) }
         ensures ee { held ee.new ≡ (if is_ok result then emptied (held ee.old) else held ee.old) }
-        ensures vf_name { vf.new.places.ghost_name ≡ vf.old.places.ghost_name }
-        ensures ee_name { ee.new.places.ghost_name ≡ ee.old.places.ghost_name }
     {
         if is_too_deep(depth) {
             let fault = OpeningFault::TooDeep(depth);

@@ -23,7 +23,7 @@ impl<F: Filter> Inspection<F> {
         list: &List<'_, E>,
         entry: u32,
     ) -> Result<Option<(u8, u8)>, WindowFault>
-        ensures { Windowed E.TestName.inside E.TestName.shape points.now faces.now (core_of self.now) (held list.now) entry (F.Filter.struck self.now.filter) result }
+        ensures { Windowed E.naming points.now faces.now (core_of self.now) (held list.now) entry (F.Filter.struck self.now.filter) result }
     {
         let Some(rows) = Rows::of(&self.draft, points, faces) else {
             return Err(WindowFault::TableTooShort);
@@ -38,7 +38,7 @@ impl<F: Filter> Inspection<F> {
     }
 
     fn window_of<E: TestName>(&self, e: E, rows: Rows<'_>) -> Option<(u8, u8)>
-        ensures { result ≡ window_at (F.Filter.struck self.now.filter) self.now.depth (E.TestName.shape (seen rows.entry) e) }
+        ensures { result ≡ window_at (F.Filter.struck self.now.filter) self.now.depth ((E.naming).shape (seen rows.entry) e) }
     {
         let test = e.test(rows);
         let Some(window) = window_at(&self.filter, &test, self.depth) else {

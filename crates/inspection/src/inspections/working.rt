@@ -1,8 +1,9 @@
 // A whole inspection from an opening on, by a list of requests.
-ghost use Rattle.std.specs.Prelude.{◌≡◌, ◌<◌, min, length, take, drop, MatchResult, IfOk};
+ghost use Rattle.std.specs.Prelude.{◌≡◌, ◌<◌, ◌≤◌, min, length, take, drop, MatchResult, IfOk};
 ghost use Rattle.inspection.specs.Sheets.{sheet_in};
 ghost use Rattle.inspection.specs.Lists.{held};
 ghost use Rattle.inspection.specs.States.{state_of, start};
+ghost use Rattle.inspection.specs.Runs.{Run};
 ghost use Rattle.inspection.specs.Claims.{Claim};
 ghost use Rattle.inspection.specs.Requests.{Answered, Steps, history};
 ghost use Rattle.inspection.specs.declared.faults.OpeningFault.TheVariants.{TooDeep};
@@ -26,8 +27,6 @@ impl<F: Filter> Inspection<F> {
     ) -> Answer
         ensures step { Answered (F.Filter.struck self.old.filter) points.now faces.now request result (state_of self.old vf.old ee.old) (state_of self.new vf.new ee.new) }
         ensures filter { self.new.filter ≡ self.old.filter }
-        ensures vf_name { vf.new.places.ghost_name ≡ vf.old.places.ghost_name }
-        ensures ee_name { ee.new.places.ghost_name ≡ ee.old.places.ghost_name }
     {
         match request {
             Request::SetDepth(depth) => Answer::DepthSet(self.set_depth(depth)),
@@ -63,15 +62,16 @@ pub fn inspect<F: Filter>(
 ) -> Result<Worked<F>, Refused<F>>
     ensures worked { let n = min (length requests.now) (length answers.old) in
         MatchResult result
-        (λ w. (w.answered ≡ n) × (w.inspection.filter ≡ filter) × (drop n answers.new ≡ drop n answers.old)
+        (λ w. (depth ≤ 6) × (w.answered ≡ n) × (w.inspection.filter ≡ filter) × (drop n answers.new ≡ drop n answers.old)
         × Steps (F.Filter.struck filter) points.now faces.now (take n requests.now) (take n answers.new) (start draft depth (held vf.old) (held ee.old)) (state_of w.inspection vf.new ee.new))
         (λ x. (6 < depth) × (x.fault ≡ TooDeep depth) × (x.draft ≡ draft) × (x.filter ≡ filter) × (answers.new ≡ answers.old)
         × (held vf.new ≡ held vf.old) × (held ee.new ≡ held ee.old)) }
+    ensures run { let n = min (length requests.now) (length answers.old) in
+        let accepted = history depth (take n requests.now) (take n answers.new) in
+        IfOk result (λ w. Run (F.Filter.struck filter) draft (sheet_in draft points.now faces.now) accepted (state_of w.inspection vf.new ee.new)) }
     ensures claim { let n = min (length requests.now) (length answers.old) in
         let accepted = history depth (take n requests.now) (take n answers.new) in
-        IfOk result (λ w. Claim (F.Filter.struck filter) (sheet_in draft points.now faces.now) accepted (state_of w.inspection vf.new ee.new)) }
-    ensures vf_name { vf.new.places.ghost_name ≡ vf.old.places.ghost_name }
-    ensures ee_name { ee.new.places.ghost_name ≡ ee.old.places.ghost_name }
+        IfOk result (λ w. Claim (F.Filter.struck filter) draft (sheet_in draft points.now faces.now) accepted (state_of w.inspection vf.new ee.new)) }
 {
     let mut inspection = Inspection::open(draft, filter, depth, vf, ee)?;
     let n = requests.len().min(answers.len());

@@ -1,7 +1,5 @@
-use Rattle.std.proofs.Common.{refl, ap, ◌∙◌}
-use Rattle.inspection.specs.States.{Core, State, state_of}
-use Rattle.inspection.specs.Lists.{held}
-use Rattle.inspection.proofs.Openings.{just-opened}
+use Rattle.std.proofs.Common.{refl, ◌∙◌}
+use Rattle.inspection.specs.States.{State, state_of}
 use Rattle.own_filter.proofs.ByHand.{concluded}
 use Rattle.own_filter.proofs.by_hand.inspect_by_hand.Goals as goal
 
@@ -23,7 +21,6 @@ returns g c =
     let e3 = c.set_depth.ensures.filter ∙ e2 in
     let e4 = c.offer-3.ensures.filter ∙ e3 in
     concluded (g.F.Filter.struck a.filter) a.draft ps fs a.first a.second 3 s t u v w c.offer-2.result c.offer-3.result c.set_depth.result
-    (just-opened s a.draft 2 (held a.vf.now) (held a.ee.now) c.in-Ok.inspection.depths opened.opened.0 opened.vf opened.ee)
-    (ap (λ (x : Core). x.draft) opened.opened.0)
+    opened.begins
     (rw (← e0) c.in-Ok-offer.ensures.step) (rw (← e1) c.offer-2.ensures.step) c.set_depth.ensures.step refl refl (rw (← e3) c.offer-3.ensures.step)
     (rw (← e4) c.findings.ensures.claim)

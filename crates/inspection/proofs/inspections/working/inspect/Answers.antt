@@ -1,11 +1,12 @@
-use Rattle.std.proofs.Common.{◌≡◌, ℕ, ◌<◌, ◌≤◌, length, take, ap, ◌∙◌, subst, arith}
+use Rattle.std.proofs.Common.{◌≡◌, ℕ, ◌<◌, ◌≤◌, length, take, min, ap, ◌∙◌, subst, arith}
 use Rattle.inspection.specs.Lists.{held}
 use Rattle.inspection.specs.Sheets.{sheet_in}
-use Rattle.inspection.specs.Claims.{Claim}
+use Rattle.inspection.specs.Runs.{Run}
 use Rattle.inspection.specs.States.{Core, State, state_of, start}
 use Rattle.inspection.specs.Requests.{history}
 use Rattle.inspection.specs.declared.requests.Request.TheVariants.{SetDepth}
-use Rattle.inspection.proofs.Working.{worked-on, rest-more, claimed}
+use Rattle.inspection.proofs.Claiming.{claim}
+use Rattle.inspection.proofs.Working.{worked-on, rest-more, runs-on}
 use Rattle.inspection.proofs.inspections.working.inspect.Goals as goal
 
 pub loop-i-preserved : goal.loop-i-preserved
@@ -22,19 +23,22 @@ loop-i-preserved g c =
           (rw (← i.filter) e.step);
       filter = e.filter ∙ i.filter;
       rest = rest-more l.answers a.answers.now l.i c.answer.result i.rest;
-      vf_name = e.vf_name ∙ i.vf_name;
-      ee_name = e.ee_name ∙ i.ee_name;
     }
+
+pub returns-clause-run : goal.returns-clause-run
+returns-clause-run g c =
+    let a = c.args in
+    let l = c.loop-i in
+    let n : l.i ≡ c.min-n.result = omega arith in
+    let k : a.depth ≤ 6 = subst (λ (d : ℕ). d ≤ 6) (ap (λ (x : Core). x.depth) c.in_ok-inspection.ensures.opened.0) c.in_ok-inspection.ensures.begins.depth in
+    let set = g.F.Filter.struck a.filter in
+    let t : State = state_of l.inspection l.vf l.ee in
+    subst (λ (j : ℕ). Run set a.draft (sheet_in a.draft a.points.now a.faces.now) (history a.depth (take j a.requests.now) (take j l.answers)) t) (n ∙ c.min-n.ensures)
+    (runs-on set a.points.now a.faces.now a.draft a.depth (held a.vf.now) (held a.ee.now) (take l.i a.requests.now) (take l.i l.answers) t k l.invariant.steps)
 
 pub returns-clause-claim : goal.returns-clause-claim
 returns-clause-claim g c =
     let a = c.args in
-    let l = c.loop-i in
-    let m = c.min-n.result in
-    let n : l.i ≡ m = omega arith in
-    let o = c.in_ok-inspection.ensures.opened.0 in
-    let k : a.depth ≤ 6 = subst (λ (d : ℕ). d ≤ 6) (ap (λ (x : Core). x.depth) o) c.in_ok-inspection.inspection.depths in
-    let set = g.F.Filter.struck a.filter in
-    let t : State = state_of l.inspection l.vf l.ee in
-    subst (λ (j : ℕ). Claim set (sheet_in a.draft a.points.now a.faces.now) (history a.depth (take j a.requests.now) (take j l.answers)) t) (n ∙ c.min-n.ensures)
-    (claimed set (g.F.Filter.lawful a.filter) a.points.now a.faces.now a.draft a.depth (held a.vf.now) (held a.ee.now) (take l.i a.requests.now) (take l.i l.answers) t k l.invariant.steps)
+    let n = min (length a.requests.now) (length a.answers.now) in
+    claim (g.F.Filter.lawful a.filter) a.draft (sheet_in a.draft a.points.now a.faces.now) (history a.depth (take n a.requests.now) (take n c.loop-i.answers))
+    (state_of c.loop-i.inspection c.loop-i.vf c.loop-i.ee) (returns-clause-run g c)

@@ -10,6 +10,4 @@ invariant-loop-i g l = record {
   steps : Steps (g.F.Filter.struck l.fn.filter) l.points l.faces (take l.i l.requests) (take l.i l.answers) (start l.fn.draft l.depth (held l.fn.vf) (held l.fn.ee)) (state_of l.inspection l.vf l.ee);
   filter : l.inspection.filter ≡ l.fn.filter;
   rest : drop l.i l.answers ≡ drop l.i l.fn.answers;
-  vf_name : l.vf.places.ghost_name ≡ l.fn.vf.places.ghost_name;
-  ee_name : l.ee.places.ghost_name ≡ l.fn.ee.places.ghost_name;
 }

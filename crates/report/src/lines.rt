@@ -1,0 +1,128 @@
+// The lines of the two kinds of entries, and of their counts.
+ghost use Rattle.std.specs.Prelude.{◌≡◌, ◌+◌, ◌≤◌, ◌++◌, ℕ, List, Option, codes, decimal};
+ghost use Rattle.arrayvec.specs.ArrayString.{array_string_len};
+ghost use Rattle.report.specs.declared.faults.Listed.{Listed};
+ghost use Rattle.report.specs.Lines.{word_of, spaced, window_parts, vf_line, ee_line, count_line};
+
+use crate::faults::Listed;
+use arrayvec::ArrayString;
+use inspection::{EeName, Tally, TestName, VfName};
+use itoa::Buffer;
+
+/// A line has fewer bytes.
+pub(crate) type Line = ArrayString<96>;
+
+/// An entry that has a line in the report.
+pub(crate) trait HasLine: TestName {
+    // which list it stands on
+    ghost listed: { Listed };
+
+    // its line, with its window
+    ghost line: { Self → Option (ℕ × ℕ) → List ℕ };
+
+    fn listed() -> Listed
+        ensures { result ≡ listed };
+
+    fn line(self, window: Option<(u8, u8)>) -> Line
+        ensures { result.bytes ≡ line self window };
+}
+
+impl HasLine for VfName {
+    ghost use Rattle.report.specs.declared.faults.Listed.TheVariants.{Vf};
+
+    ghost listed = { Vf };
+
+    ghost line = { vf_line };
+
+    fn listed() -> Listed {
+        Listed::Vf
+    }
+
+    fn line(self, window: Option<(u8, u8)>) -> Line {
+        let mut line = start(Listed::Vf);
+        number(&mut line, u32::from(self.point));
+        number(&mut line, u32::from(self.face));
+        put_window(&mut line, window);
+        line.push_str("\n");
+        line
+    }
+}
+
+impl HasLine for EeName {
+    ghost use Rattle.report.specs.declared.faults.Listed.TheVariants.{Ee};
+
+    ghost listed = { Ee };
+
+    ghost line = { ee_line };
+
+    fn listed() -> Listed {
+        Listed::Ee
+    }
+
+    fn line(self, window: Option<(u8, u8)>) -> Line {
+        let mut line = start(Listed::Ee);
+        number(&mut line, u32::from(self.u));
+        number(&mut line, u32::from(self.v));
+        number(&mut line, u32::from(self.k));
+        number(&mut line, u32::from(self.l));
+        put_window(&mut line, window);
+        line.push_str("\n");
+        line
+    }
+}
+
+/// The line of the counts of a kind.
+pub(crate) fn count_line(list: Listed, tally: Tally) -> Line
+    ensures { result.bytes ≡ count_line list tally }
+{
+    let mut line = start(list);
+    line.push_str(" kept");
+    number(&mut line, tally.kept);
+    line.push_str(" struck");
+    number(&mut line, tally.struck);
+    line.push_str(" shared");
+    number(&mut line, tally.shared);
+    line.push_str(" repeated");
+    number(&mut line, tally.repeated);
+    line.push_str("\n");
+    line
+}
+
+/// The word that the lines of a list begin with.
+fn start(list: Listed) -> Line
+    ensures text { result.bytes ≡ word_of list }
+    ensures len { array_string_len result ≡ 2 }
+{
+    let mut line = ArrayString::new();
+    match list {
+        Listed::Vf => line.push_str("VF"),
+        Listed::Ee => line.push_str("EE"),
+    }
+    line
+}
+
+/// A space and a number.
+fn number(line: &mut Line, n: u32)
+    requires { array_string_len line.old + 11 ≤ 96 }
+    ensures text { line.new.bytes ≡ line.old.bytes ++ (codes " " ++ decimal n) }
+    ensures len { array_string_len line.new ≤ array_string_len line.old + 11 }
+{
+    let mut digits = Buffer::new();
+    line.push_str(" ");
+    line.push_str(digits.format(n));
+}
+
+/// A window, which may be absent.
+fn put_window(line: &mut Line, window: Option<(u8, u8)>)
+    requires { array_string_len line.old + 22 ≤ 96 }
+    ensures text { line.new.bytes ≡ line.old.bytes ++ spaced (window_parts window) }
+    ensures len { array_string_len line.new ≤ array_string_len line.old + 22 }
+{
+    match window {
+        Some((first, last)) => {
+            number(line, u32::from(first));
+            number(line, u32::from(last));
+        }
+        None => line.push_str(" - -"),
+    }
+}
