@@ -1,7 +1,7 @@
 -- Cases worked out by hand, as one statement about the rules.
 use Rattle.std.specs.Prelude.{◌≡◌, ℕ, List, [], ◌∷◌, Some, None, Option, ℤ, pos, neg_ℤ, codes}
 use Rattle.sheet.specs.Checks.{first_fit}
-use Rattle.sheet.specs.Lines.{lines_of}
+use Rattle.sheet.specs.Lines.{numbered}
 use Rattle.sheet.specs.Sheet.{point_limit, face_limit, points_in, sheet_checks}
 use Rattle.sheet.specs.declared.notices.Layer.{Layer}
 use Rattle.sheet.specs.declared.notices.Layer.TheVariants as layer
@@ -33,7 +33,7 @@ fault_read text = first_fit (sheet_checks text point_limit face_limit)
 
 -- the points that a text says
 abbrev pub points_read : List ℕ → List Point
-points_read text = points_in (lines_of text)
+points_read text = points_in (numbered text)
 
 -- the fault of a depth
 abbrev pub fault_opened : ℕ → Option Notice

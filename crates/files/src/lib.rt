@@ -1,8 +1,9 @@
 //! Reading the files of a fold plan.
 #![tactic(auto)]
 
-ghost use Rattle.std.specs.Prelude.{◌≡◌, ◌≤◌, take, IfOk, vec_len};
+ghost use Rattle.std.specs.Prelude.{◌≡◌, ◌≤◌, take, IfOk, IfSome, vec_len};
 
+use std::alloc::Global;
 use std::fs::File;
 use std::io;
 use std::io::Read;
@@ -12,7 +13,7 @@ use std::path::Path;
 pub fn load(rt: &HostRuntime, path: Path<'_>, most: usize) -> anyhow::Result<Vec<u8>>
     ensures { IfOk result (λ bytes. vec_len bytes ≤ most) }
 {
-    match read_front(rt, path, most) {
+    match File::open(rt, path).and_then(|file| read_front(rt.alloc(), file, most)) {
         Ok(bytes) => Ok(bytes),
         Err(e) => {
             eprintln!(rt; "{}: {e}", path.display())?;
@@ -21,21 +22,13 @@ pub fn load(rt: &HostRuntime, path: Path<'_>, most: usize) -> anyhow::Result<Vec
     }
 }
 
-fn read_front(rt: &HostRuntime, path: Path<'_>, most: usize) -> io::Result<Vec<u8>>
-    ensures { IfOk result (λ bytes. vec_len bytes ≤ most) }
+/// The first `most` bytes that a reader gives.
+fn read_front<R: Read + Drop>(alloc: Global, reader: R, most: usize) -> io::Result<Vec<u8>>
+    ensures few { IfOk result (λ bytes. vec_len bytes ≤ most) }
+    ensures honest { IfOk result (λ bytes. IfSome (R.remaining reader) (λ all. bytes.items ≡ take most all)) }
 {
-    let mut bytes = Vec::new(rt.alloc());
-    File::open(rt, path)?
-        .take(most as u64)
-        .read_to_end(&mut bytes)?;
-    Ok(front(bytes, most))
-}
-
-/// The first `most` of these bytes.
-fn front(mut bytes: Vec<u8>, most: usize) -> Vec<u8>
-    ensures items { result.items ≡ take most bytes.items }
-    ensures len { vec_len result ≤ most }
-{
+    let mut bytes = Vec::new(alloc);
+    reader.take(most as u64).read_to_end(&mut bytes)?;
     bytes.truncate(most);
-    bytes
+    Ok(bytes)
 }

@@ -1,4 +1,4 @@
-pub mod Held
+pub mod Coordinates
 pub mod ByRules
 pub mod Going
 pub mod Offering

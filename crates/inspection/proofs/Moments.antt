@@ -27,7 +27,7 @@ use Rattle.inspection.specs.Offers.{short, judge, entries_after, tally_after, ta
 use Rattle.inspection.specs.Runs.{depth_checks, Opened, DepthSet, Accepted, Brings, Run}
 use Rattle.inspection.specs.Runs.Run.{opened, depth_set, offered, asked}
 use Rattle.inspection.specs.Claims.{CountsOfKind, how_many, OfSheet}
-use Rattle.inspection.proofs.Held.{in_reach}
+use Rattle.inspection.proofs.Coordinates.{in_reach}
 use Rattle.inspection.proofs.Standing.{behind, parts}
 use Rattle.inspection.proofs.Namings.{Named}
 use Rattle.inspection.proofs.NamedVf.{vf_named}

@@ -15,7 +15,7 @@ use Rattle.inspection.specs.Totals.{no_tests}
 use Rattle.inspection.specs.Offerings.{Offering}
 use Rattle.inspection.specs.Sheets.{Sheet, sheet_in}
 use Rattle.inspection.specs.Tests.{Naming, vf_naming, ee_naming}
-use Rattle.inspection.specs.Lists.{Held, filled}
+use Rattle.inspection.specs.Lists.{Contents, filled}
 use Rattle.inspection.specs.Classes.{Judge, counted, together, class_of, added, listed_after, counted_after}
 use Rattle.inspection.specs.States.{State, tally_of, counting}
 use Rattle.inspection.specs.Offers.{row_checks, room_check, judge, entries_after, tally_after, lacks_room, taken, Offered}
@@ -68,7 +68,7 @@ counts j es rest s = ap (counted_after j es rest) (sym (none-more s)) ∙ after-
 
 -- ---- one kind: `new` are the new entries behind the old ones of a list, of the tests `ts` over the rows' sheet q
 module _ {E : Type 0} (n : Naming E) (set : Shape → Bool) (d : ℕ) (q s : Sheet) (o : Offering) (same : q ≡ s) (ts : List E) (tests : ts ≡ n.tests q o)
-    (h : Held E) (old new : List E) (at : old ≡ h.entries) (e : old ++ new ≡ listed_after (judge n set d q o) old ts) where
+    (h : Contents E) (old new : List E) (at : old ≡ h.entries) (e : old ++ new ≡ listed_after (judge n set d q o) old ts) where
   listed-is : h.entries ++ new ≡ entries_after n set d s o h.entries
   listed-is =
       ap (λ xs. xs ++ new) (sym at) ∙ e ∙ (λ i. listed_after (judge n set d q o) (at i) (tests i))
@@ -79,8 +79,8 @@ module _ {E : Type 0} (n : Naming E) (set : Shape → Bool) (d : ℕ) (q s : She
       let k : length (entries_after n set d s o h.entries) - length h.entries ≡ length new = omega (arith, ap length listed-is, length-append h.entries new) in
       (λ i. nat_lt (length h.rest) (k i)) ∙ p
 
-  pub held-is : (t : Held E) (xs : List E) → xs ≡ new → t ≡ filled (h.entries ++ xs) h → t ≡ filled (entries_after n set d s o h.entries) h
-  held-is t xs l p = p ∙ ap (λ ys. filled (h.entries ++ ys) h) l ∙ ap (λ ys. filled ys h) listed-is
+  pub contents_of-is : (t : Contents E) (xs : List E) → xs ≡ new → t ≡ filled (h.entries ++ xs) h → t ≡ filled (entries_after n set d s o h.entries) h
+  contents_of-is t xs l p = p ∙ ap (λ ys. filled (h.entries ++ ys) h) l ∙ ap (λ ys. filled ys h) listed-is
 
   pub tally-is : (t more : Tally) → more ≡ counted_after (judge n set d q o) old ts no_tests → together t more ≡ tally_after n set d s o h.entries t
   tally-is t more p =

@@ -15,7 +15,7 @@ use Rattle.inspection.specs.Offerings.{Offering, Faces}
 use Rattle.inspection.specs.Sheets.{Sheet, sheet_in}
 use Rattle.inspection.specs.declared.names.VfName.{VfName}
 use Rattle.inspection.specs.declared.names.EeName.{EeName}
-use Rattle.inspection.specs.Lists.{Held}
+use Rattle.inspection.specs.Lists.{Contents}
 use Rattle.inspection.specs.States.{Core, State, at_depth, start}
 use Rattle.inspection.specs.Offers.{Offered as OfferAnswered}
 use Rattle.inspection.specs.Runs.{Accepted, history_after, Run, opened, depth_set, offered, asked, DepthSet as DepthAnswered}
@@ -115,7 +115,7 @@ pub rest-more : {A : Type 0} (xs ys : List A) (i : ℕ) (a : A) → drop i xs �
 rest-more xs ys i a e = drop-set-lt (i + 1) xs i a (omega arith) ∙ sym (drop-drop 1 i xs) ∙ ap (drop 1) e ∙ drop-drop 1 i ys
 
 -- ---- an opened inspection that was worked
-pub runs-on : (set : Shape → Bool) (ps : List Point) (fs : List Face) (d : Draft) (k : ℕ) (vf : Held VfName) (ee : Held EeName) (qs : List Request) (rs : List Answer) (t : State) → k ≤ 6
+pub runs-on : (set : Shape → Bool) (ps : List Point) (fs : List Face) (d : Draft) (k : ℕ) (vf : Contents VfName) (ee : Contents EeName) (qs : List Request) (rs : List Answer) (t : State) → k ≤ 6
     → Steps set ps fs qs rs (start d k vf ee) t → Run set d (sheet_in d ps fs) (history k qs rs) t
 runs-on set ps fs d k vf ee qs rs t h w =
     worked-runs set ps fs d [] qs rs (start d k vf ee) t (opened (record { depth = h; core = refl; vf = refl; ee = refl })) w

@@ -4,22 +4,22 @@ use Rattle.std.specs.List.{list_any}
 use Rattle.inspection.specs.declared.lists.List.{List as Listing}
 
 -- its entries, the rest of its table, and who lent the table
-pub record Held (E : Type 0) : Type 0 where
+pub record Contents (E : Type 0) : Type 0 where
   pub entries : List E
   pub rest : List E
   pub lender : ℕ
 
-abbrev pub held : {E : Type 0} → Listing E → Held E
-held l = record { entries = take l.len l.places.now; rest = drop l.len l.places.now; lender = l.places.ghost_name }
+abbrev pub contents_of : {E : Type 0} → Listing E → Contents E
+contents_of l = record { entries = take l.len l.places.now; rest = drop l.len l.places.now; lender = l.places.ghost_name }
 
 abbrev pub entries : {E : Type 0} → Listing E → List E
-entries l = (held l).entries
+entries l = (contents_of l).entries
 
 -- grown to these entries
-abbrev pub filled : {E : Type 0} → List E → Held E → Held E
+abbrev pub filled : {E : Type 0} → List E → Contents E → Contents E
 filled es h = record { entries = es; rest = drop (length es - length h.entries) h.rest; lender = h.lender }
 
-abbrev pub emptied : {E : Type 0} → Held E → Held E
+abbrev pub emptied : {E : Type 0} → Contents E → Contents E
 emptied h = record { entries = []; rest = h.entries ++ h.rest; lender = h.lender }
 
 -- some entry is the same

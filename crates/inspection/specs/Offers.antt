@@ -12,7 +12,7 @@ use Rattle.inspection.specs.Faults.{notice_at, notice_of_offer}
 use Rattle.inspection.specs.Offerings.{Offering, Faces}
 use Rattle.inspection.specs.Sheets.{Sheet, sheet_in, face_at}
 use Rattle.inspection.specs.Tests.{Naming, vf_naming, ee_naming}
-use Rattle.inspection.specs.Lists.{Held, filled}
+use Rattle.inspection.specs.Lists.{Contents, filled}
 use Rattle.inspection.specs.Classes.{Judge, judging, listed_after, counted_after}
 use Rattle.inspection.specs.States.{State, tally_of}
 
@@ -40,7 +40,7 @@ module _ {E : Type 0} (n : Naming E) (set : Shape → Bool) (d : ℕ) (s : Sheet
   tally_after es t = counted_after judge es (n.tests s o) t
 
   -- fewer free places than new entries
-  abbrev pub lacks_room : Held E → Bool
+  abbrev pub lacks_room : Contents E → Bool
   lacks_room h = nat_lt (length h.rest) (length (entries_after h.entries) - length h.entries)
 
 -- ---- the checks

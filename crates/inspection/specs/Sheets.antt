@@ -4,14 +4,14 @@ use Rattle.sheet.specs.declared.rows.Coords.{Coords}
 use Rattle.sheet.specs.declared.rows.Point.{Point}
 use Rattle.sheet.specs.declared.rows.Face.{Face}
 use Rattle.sheet.specs.declared.drafts.Draft.{Draft}
-use Rattle.sheet.specs.Counted.{held}
+use Rattle.sheet.specs.Counted.{coordinate_of}
 use Rattle.motion.specs.declared.shapes.V3.{V3}
 use Rattle.motion.specs.declared.shapes.Moving.{Moving}
 use Rattle.inspection.specs.declared.sheets.Rows.{Rows}
 
 -- a place, each coordinate as it counts
 abbrev pub place_of : Coords → V3
-place_of c = record { x = held c.x; y = held c.y; z = held c.z }
+place_of c = record { x = coordinate_of c.x; y = coordinate_of c.y; z = coordinate_of c.z }
 
 abbrev pub moving_of : Point → Moving
 moving_of p = record { start = place_of p.start; end = place_of p.end }

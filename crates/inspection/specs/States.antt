@@ -8,7 +8,7 @@ use Rattle.inspection.specs.declared.names.VfName.{VfName}
 use Rattle.inspection.specs.declared.names.EeName.{EeName}
 use Rattle.inspection.specs.Totals.{no_tests}
 use Rattle.inspection.specs.Classes.{together}
-use Rattle.inspection.specs.Lists.{Held, held, emptied}
+use Rattle.inspection.specs.Lists.{Contents, contents_of, emptied}
 
 -- of the inspection itself, but for its filter
 pub record Core : Type 0 where
@@ -19,14 +19,14 @@ pub record Core : Type 0 where
 
 pub record State : Type 0 where
   pub core : Core
-  pub vf : Held VfName
-  pub ee : Held EeName
+  pub vf : Contents VfName
+  pub ee : Contents EeName
 
 abbrev pub core_of : {F : Type 0} → Inspection F → Core
 core_of i = record { draft = i.draft; depth = i.depth; tallies = i.tallies; accepted = i.accepted }
 
 abbrev pub state_of : {F : Type 0} → Inspection F → Listing VfName → Listing EeName → State
-state_of i vf ee = record { core = core_of i; vf = held vf; ee = held ee }
+state_of i vf ee = record { core = core_of i; vf = contents_of vf; ee = contents_of ee }
 
 -- the counts of the VF tests (0) and of the EE tests (1)
 abbrev pub tally_of : ℕ → Core → Tally
@@ -37,7 +37,7 @@ abbrev pub fresh : Draft → ℕ → Core
 fresh d k = record { draft = d; depth = k; tallies = no_tests ∷ (no_tests ∷ []); accepted = 0 }
 
 -- with lists that were emptied
-abbrev pub start : Draft → ℕ → Held VfName → Held EeName → State
+abbrev pub start : Draft → ℕ → Contents VfName → Contents EeName → State
 start d k vf ee = record { core = fresh d k; vf = emptied vf; ee = emptied ee }
 
 abbrev pub at_depth : ℕ → Core → Core

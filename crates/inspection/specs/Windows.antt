@@ -10,7 +10,7 @@ use Rattle.inspection.specs.declared.faults.WindowFault.{WindowFault}
 use Rattle.inspection.specs.Faults.{notice_at, notice_of_window}
 use Rattle.inspection.specs.Sheets.{Sheet, sheet_in}
 use Rattle.inspection.specs.Tests.{Naming}
-use Rattle.inspection.specs.Lists.{Held}
+use Rattle.inspection.specs.Lists.{Contents}
 use Rattle.inspection.specs.States.{Core}
 use Rattle.inspection.specs.Offers.{short}
 
@@ -27,7 +27,7 @@ window_of set d shape None = None
 window_of set d shape (Some e) = window_at set d (shape e)
 
 -- of the entry i of a list: what its numbers have to be, and the test that it names
-module _ {E : Type 0} (n : Naming E) (ps : List Point) (fs : List Face) (c : Core) (h : Held E) (i : ℕ) where
+module _ {E : Type 0} (n : Naming E) (ps : List Point) (fs : List Face) (c : Core) (h : Contents E) (i : ℕ) where
   abbrev sheet : Sheet
   sheet = sheet_in c.draft ps fs
 

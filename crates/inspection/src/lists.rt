@@ -12,11 +12,11 @@ pub struct List<'a, E> {
 
 impl<'a, E: Entry> List<'a, E> {
     ghost use Rattle.std.specs.Prelude.{◌≡◌, ◌+◌, ◌++◌, ◌==◌, [], slice_get};
-    ghost use Rattle.inspection.specs.Lists.{held, entries, has, filled, emptied};
+    ghost use Rattle.inspection.specs.Lists.{contents_of, entries, has, filled, emptied};
 
     /// An empty list over a table.
     pub fn new(places: &'a mut [E]) -> List<'a, E>
-        ensures { held result ≡ record { entries = []; rest = places.old; lender = places.entry.ghost_name } }
+        ensures { contents_of result ≡ record { entries = []; rest = places.old; lender = places.entry.ghost_name } }
     {
         List { places, len: 0 }
     }
@@ -43,7 +43,7 @@ impl<'a, E: Entry> List<'a, E> {
 
     /// How many more entries there is room for.
     pub fn free(&self) -> usize
-        ensures { result ≡ length (held self.now).rest }
+        ensures { result ≡ length (contents_of self.now).rest }
     {
         self.places.len() - self.len
     }
@@ -64,15 +64,15 @@ impl<'a, E: Entry> List<'a, E> {
 
     /// No entries; the table is as it was.
     pub(crate) fn clear(&mut self)
-        ensures { held self.new ≡ emptied (held self.old) }
+        ensures { contents_of self.new ≡ emptied (contents_of self.old) }
     {
         self.len = 0;
     }
 
     /// Puts entries behind those that stand here.
     pub(crate) fn extend(&mut self, new: &[E])
-        requires { length new.now ≤ length (held self.old).rest }
-        ensures { held self.new ≡ filled (entries self.old ++ new.now) (held self.old) }
+        requires { length new.now ≤ length (contents_of self.old).rest }
+        ensures { contents_of self.new ≡ filled (entries self.old ++ new.now) (contents_of self.old) }
     {
         let end = self.len + new.len();
         self.places[self.len..end].copy_from_slice(new);

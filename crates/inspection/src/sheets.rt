@@ -5,7 +5,7 @@ ghost use Rattle.inspection.specs.Sheets.{place_of, moving_of, sheet_of, sheet_i
 ghost use Rattle.inspection.specs.Offers.{short};
 
 use motion::{Moving, V3};
-use sheet::{Coords, Draft, Face, Point, held};
+use sheet::{Coords, Draft, Face, Point, coordinate_of};
 
 /// The rows of a sheet, and no more.
 #[derive(Clone, Copy)]
@@ -89,8 +89,8 @@ fn place(coords: Coords) -> V3
     ensures { result ≡ place_of coords }
 {
     V3 {
-        x: held(coords.x) as i64,
-        y: held(coords.y) as i64,
-        z: held(coords.z) as i64,
+        x: coordinate_of(coords.x) as i64,
+        y: coordinate_of(coords.y) as i64,
+        z: coordinate_of(coords.z) as i64,
     }
 }

@@ -1,7 +1,7 @@
 // An inspection with a filter of one's own, call by call.
 ghost use Rattle.std.specs.Prelude.{IfSome};
 ghost use Rattle.inspection.specs.Sheets.{sheet_in};
-ghost use Rattle.inspection.specs.Lists.{held};
+ghost use Rattle.inspection.specs.Lists.{contents_of};
 ghost use Rattle.own_filter.specs.Conclusions.{Concluded};
 
 use filters::Filter;
@@ -20,7 +20,7 @@ pub fn inspect_by_hand<F: Filter + Drop>(
     first: u16,
     second: u16,
 ) -> Option<Counts>
-    ensures { IfSome result (λ c. Concluded (sheet_in draft points.now faces.now) first second (held vf.new) (held ee.new)) }
+    ensures { IfSome result (λ c. Concluded (sheet_in draft points.now faces.now) first second (contents_of vf.new) (contents_of ee.new)) }
 {
     let mut inspection = match Inspection::open(draft, filter, 2, vf, ee) {
         Ok(inspection) => inspection,

@@ -1,7 +1,7 @@
 -- What is known of a frame that was read from a file, whose bytes no contract can name.
 use Rattle.std.specs.Prelude.{◌≡◌, ℕ, List, take, None}
 use Rattle.sheet.specs.Checks.{first_fit}
-use Rattle.sheet.specs.Lines.{lines_of}
+use Rattle.sheet.specs.Lines.{numbered}
 use Rattle.sheet.specs.Sheet.{point_limit, face_limit, sheet_checks, draft_of, points_in, faces_in}
 use Rattle.sheet.specs.declared.drafts.Draft.{Draft}
 use Rattle.sheet.specs.declared.rows.Face.{Face}
@@ -13,5 +13,5 @@ FromText d points faces =
     (text : List ℕ)
     × (first_fit (sheet_checks text point_limit face_limit) ≡ None)
     × (d ≡ draft_of text)
-    × (take d.points points ≡ points_in (lines_of text))
-    × (take d.faces faces ≡ faces_in (lines_of text))
+    × (take d.points points ≡ points_in (numbered text))
+    × (take d.faces faces ≡ faces_in (numbered text))

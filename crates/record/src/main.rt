@@ -14,12 +14,13 @@ use std::process::ExitCode;
 use std::{env, fs};
 use step::{Difference, compare_frames, end_at, lay, moving, record_limit, write};
 
-/// A frame: a draft and its tables.
+/// A frame: a draft and its tables, which were read from a text.
 #[derive(Drop)]
 struct Frame {
     draft: Draft,
     points: Vec<Point>,
     faces: Vec<Face>,
+    ghost from_text: { ∥ FromText draft points.items faces.items ∥₁ },
 }
 
 /// What stops the run is told where it is found, so that only the status is left to say.
@@ -48,9 +49,7 @@ fn run(rt: &HostRuntime) -> anyhow::Result<()> {
 }
 
 /// Reads a frame. Where it has a fault, its name is told on standard error beside the fault's line.
-fn read_frame(rt: &HostRuntime, path: Path<'_>) -> anyhow::Result<Frame>
-    ensures { IfOk result (λ frame. FromText frame.draft frame.points.items frame.faces.items) }
-{
+fn read_frame(rt: &HostRuntime, path: Path<'_>) -> anyhow::Result<Frame> {
     let heap = rt.alloc();
     let text = load(rt, path, TEXT_LIMIT + 1)?;
     let mut points = vec![in heap; Point::default(); POINT_LIMIT as usize]?;

@@ -1,3 +1,4 @@
+pub mod Answering
 pub mod Pasting
 pub mod Entries
 pub mod Rows

@@ -4,7 +4,7 @@ use Rattle.sheet.specs.Checks.{Check, first_fit, answer}
 use Rattle.sheet.specs.declared.notices.Notice.{Notice}
 use Rattle.sheet.specs.declared.rows.Point.{Point}
 use Rattle.sheet.specs.declared.rows.Face.{Face}
-use Rattle.sheet.proofs.Answering.{fits-now, fits-later, front-good, front-fault, good-value, good-again, fault-again}
+use Rattle.report.proofs.Answering.{fits-now, fits-later, front-good, front-fault, good-value, good-again, fault-again}
 use Rattle.motion.specs.declared.shapes.Shape.{Shape}
 use Rattle.inspection.specs.declared.classes.Tally.{Tally}
 use Rattle.inspection.specs.Sheets.{Sheet, sheet_in}

@@ -8,7 +8,7 @@ use Rattle.motion.specs.Depths.{window_at}
 use Rattle.inspection.specs.Sheets.{Sheet, sheet_in}
 use Rattle.inspection.specs.Tests.{vf_inside, vf_shape, ee_inside, ee_shape}
 use Rattle.inspection.specs.declared.classes.Tally.{Tally}
-use Rattle.inspection.specs.Lists.{Held}
+use Rattle.inspection.specs.Lists.{Contents}
 use Rattle.inspection.specs.States.{State, tally_of}
 use Rattle.inspection.specs.Offers.{short}
 use Rattle.report.specs.declared.faults.Listed.{Listed}
@@ -20,7 +20,7 @@ use Rattle.report.specs.Lines.{vf_line, ee_line, count_line}
 unfoldable pub entry_limit : ℕ
 entry_limit = 4294967296
 
-abbrev pub numbered : {E : Type 0} → Held E → List E
+abbrev pub numbered : {E : Type 0} → Contents E → List E
 numbered h = take entry_limit h.entries
 
 -- ---- the lines of a list's entries, with their windows by a set at depth d, and of its counts
@@ -28,7 +28,7 @@ module _ {E : Type 0} (line : E → Option (ℕ × ℕ) → List ℕ) (shape : E
   abbrev pub entry_line : E → List ℕ
   entry_line e = line e (window_at set d (shape e))
 
-  abbrev pub section : Listed → Held E → Tally → List ℕ
+  abbrev pub section : Listed → Contents E → Tally → List ℕ
   section l h t = flat_map entry_line (numbered h) ++ count_line l t
 
 abbrev pub report_text : (Shape → Bool) → Sheet → State → List ℕ

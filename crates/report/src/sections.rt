@@ -2,7 +2,7 @@
 ghost use Rattle.std.specs.Prelude.{◌≡◌, ◌+◌, ◌*◌, ◌≤◌, false, length, None, slice_get, option_map, IfOk};
 ghost use Rattle.sheet.specs.Checks.{first_fit, answer, told};
 ghost use Rattle.inspection.specs.Sheets.{sheet_in};
-ghost use Rattle.inspection.specs.Lists.{held, entries};
+ghost use Rattle.inspection.specs.Lists.{contents_of, entries};
 ghost use Rattle.inspection.specs.Offers.{short};
 ghost use Rattle.report.specs.Faults.{notice_of_report};
 ghost use Rattle.report.specs.Reports.{numbered, entry_line, section, entry_checks};
@@ -19,7 +19,7 @@ const ENTRY_LIMIT: usize = 4_294_967_296;
 
 /// How many entries of the list have a number.
 fn count<E: Entry>(list: &List<'_, E>) -> usize
-    ensures len { result ≡ length (numbered (held list.now)) }
+    ensures len { result ≡ length (numbered (contents_of list.now)) }
     ensures limit { result ≤ 4294967296 }
 {
     list.len().min(ENTRY_LIMIT)
@@ -54,8 +54,8 @@ pub(crate) fn section_len<F: Filter, E: HasLine>(
 ) -> Result<usize, ReportFault>
     requires { short inspection.now.draft points.now faces.now ≡ false }
     ensures answer { let s = sheet_in inspection.now.draft points.now faces.now in
-        told notice_of_report result ≡ answer (entry_checks ((E.TestName.naming).inside s) E.HasLine.listed 0 (numbered (held list.now)))
-        (length (section E.HasLine.line ((E.TestName.naming).shape s) (F.Filter.struck inspection.now.filter) inspection.now.depth E.HasLine.listed (held list.now) tally)) }
+        told notice_of_report result ≡ answer (entry_checks ((E.TestName.naming).inside s) E.HasLine.listed 0 (numbered (contents_of list.now)))
+        (length (section E.HasLine.line ((E.TestName.naming).shape s) (F.Filter.struck inspection.now.filter) inspection.now.depth E.HasLine.listed (contents_of list.now) tally)) }
     ensures limit { IfOk result (λ n. n ≤ 96 * 4294967297) }
 {
     let mut len = count_line(E::listed(), tally).len();
@@ -79,13 +79,13 @@ pub(crate) fn put_section<F: Filter, E: HasLine>(
     at: usize,
 ) -> usize
     requires rows { short inspection.now.draft points.now faces.now ≡ false }
-    requires inside { first_fit (entry_checks ((E.TestName.naming).inside (sheet_in inspection.now.draft points.now faces.now)) E.HasLine.listed 0 (numbered (held list.now))) ≡ None }
+    requires inside { first_fit (entry_checks ((E.TestName.naming).inside (sheet_in inspection.now.draft points.now faces.now)) E.HasLine.listed 0 (numbered (contents_of list.now))) ≡ None }
     requires room { let s = sheet_in inspection.now.draft points.now faces.now in
-        at + length (section E.HasLine.line ((E.TestName.naming).shape s) (F.Filter.struck inspection.now.filter) inspection.now.depth E.HasLine.listed (held list.now) tally) ≤ length out.old }
+        at + length (section E.HasLine.line ((E.TestName.naming).shape s) (F.Filter.struck inspection.now.filter) inspection.now.depth E.HasLine.listed (contents_of list.now) tally) ≤ length out.old }
     ensures end { let s = sheet_in inspection.now.draft points.now faces.now in
-        result ≡ at + length (section E.HasLine.line ((E.TestName.naming).shape s) (F.Filter.struck inspection.now.filter) inspection.now.depth E.HasLine.listed (held list.now) tally) }
+        result ≡ at + length (section E.HasLine.line ((E.TestName.naming).shape s) (F.Filter.struck inspection.now.filter) inspection.now.depth E.HasLine.listed (contents_of list.now) tally) }
     ensures out { let s = sheet_in inspection.now.draft points.now faces.now in
-        out.new ≡ pasted out.old at (section E.HasLine.line ((E.TestName.naming).shape s) (F.Filter.struck inspection.now.filter) inspection.now.depth E.HasLine.listed (held list.now) tally) }
+        out.new ≡ pasted out.old at (section E.HasLine.line ((E.TestName.naming).shape s) (F.Filter.struck inspection.now.filter) inspection.now.depth E.HasLine.listed (contents_of list.now) tally) }
 {
     let mut end = at;
     for i in 0..count(list) {

@@ -1,12 +1,3 @@
-pub mod Answering
-pub mod Cutting
-pub mod Digits
-pub mod FaceLines
-pub mod Filling
-pub mod Fronts
-pub mod LineAnswers
-pub mod LineContents
-pub mod PointLines
-pub mod Reading
-pub mod Surveying
+pub mod FirstFit
 pub mod TextLines
+pub mod Walking

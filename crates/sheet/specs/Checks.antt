@@ -12,6 +12,11 @@ abbrev pub first_fit : List Check → Option Notice
 first_fit [] = None
 first_fit (c ∷ cs) = cond c.fits (Some c.tells) (first_fit cs)
 
+-- what a result tells by its fault, if it has one
+abbrev pub fault_notice : {X E : Type 0} → (E → Notice) → Result X E → Option Notice
+fault_notice f (Ok x) = None
+fault_notice f (Err e) = Some (f e)
+
 abbrev pub unless : {X : Type 0} → Option Notice → X → Result X Notice
 unless None x = Ok x
 unless (Some n) x = Err n

@@ -12,8 +12,8 @@ greatest = pos 4096
 abbrev pub in_range : ℤ → Bool
 in_range z = int_le least z && int_le z greatest
 
-abbrev pub held : ℤ → ℤ
-held z = cond (int_lt z least) least (cond (int_lt greatest z) greatest z)
+abbrev pub coordinate_of : ℤ → ℤ
+coordinate_of z = cond (int_lt z least) least (cond (int_lt greatest z) greatest z)
 
 abbrev pub counted : Coords → Coords
-counted p = record { x = held p.x; y = held p.y; z = held p.z }
+counted p = record { x = coordinate_of p.x; y = coordinate_of p.y; z = coordinate_of p.z }

@@ -1,10 +1,10 @@
 pub mod Bytes
 pub mod Checks
 pub mod Counted
-pub mod Cuts
 pub mod Faults
 pub mod Lines
 pub mod Notices
+pub mod Numbered
 pub mod Numerals
 pub mod Passes
 pub mod Sheet

@@ -1,17 +1,16 @@
 -- The lines of a text and the fields of a line.
 use Rattle.std.specs.Prelude.{ℕ, Bool, false, cond, List, [], ◌∷◌, ◌==◌}
+use Rattle.std.specs.List.{before_first, after_first, onto_first, enumerate_from}
 use Rattle.sheet.specs.Bytes.{line_feed, space, hash, letter_f, letter_v}
-use Rattle.sheet.specs.Cuts.{before, after}
-
--- x in front of the first line
-abbrev pub onto : ℕ → List (List ℕ) → List (List ℕ)
-onto x [] = (x ∷ []) ∷ []
-onto x (l ∷ ls) = (x ∷ l) ∷ ls
 
 -- each line ends with a line feed, which the last may lack
 abbrev pub lines_of : List ℕ → List (List ℕ)
 lines_of [] = []
-lines_of (x ∷ xs) = cond (x == line_feed) ([] ∷ lines_of xs) (onto x (lines_of xs))
+lines_of (x ∷ xs) = cond (x == line_feed) ([] ∷ lines_of xs) (onto_first x (lines_of xs))
+
+-- the lines, each with its number, counted from 1
+abbrev pub numbered : List ℕ → List (ℕ × List ℕ)
+numbered text = enumerate_from 1 (lines_of text)
 
 pub record Fields : Type 0 where
   pub first : List ℕ
@@ -20,7 +19,7 @@ pub record Fields : Type 0 where
 
 -- split at the first and at the second space; a missing field is empty, and the third keeps any further space
 abbrev pub fields_of : List ℕ → Fields
-fields_of bs = record { first = before space bs; second = before space (after space bs); third = after space (after space bs) }
+fields_of bs = record { first = before_first (λ b. b == space) bs; second = before_first (λ b. b == space) (after_first (λ b. b == space) bs); third = after_first (λ b. b == space) (after_first (λ b. b == space) bs) }
 
 -- what a line is, by its first letter and the space after it
 pub data Content : Type 0 where

@@ -1,9 +1,10 @@
 -- The format of a sheet: the checks at each place of its text, and what a text says that passes them all.
-use Rattle.std.specs.Prelude.{ℕ, ◌+◌, ◌-◌, min, Bool, true, false, not, ◌&&◌, ◌||◌, List, [], ◌∷◌, ◌++◌, length, drop, pos, ◌==◌, int_le, nat_lt, unsigned_abs}
+use Rattle.std.specs.Prelude.{ℕ, ◌+◌, ◌-◌, min, Bool, true, not, ◌&&◌, List, [], ◌∷◌, ◌++◌, length, drop, pos, ◌==◌, int_le, nat_lt, unsigned_abs}
+use Rattle.std.specs.List.{list_any, flat_map}
 use Rattle.sheet.specs.Checks.{Check}
 use Rattle.sheet.specs.Counted.{in_range}
 use Rattle.sheet.specs.Faults.{notice_at}
-use Rattle.sheet.specs.Lines.{lines_of, Fields, Content, skipped, point, face, no_start, content_of}
+use Rattle.sheet.specs.Lines.{numbered, Fields, Content, skipped, point, face, no_start, content_of}
 use Rattle.sheet.specs.Numerals.{is_magnitude, digits_of, value_of}
 use Rattle.sheet.specs.declared.counts.Counts.{Counts}
 use Rattle.sheet.specs.declared.drafts.Draft.{Draft}
@@ -54,16 +55,12 @@ names_point points f = int_le (pos 1) (value_of f) && int_le (value_of f) (pos p
 abbrev pub point_named : List ℕ → ℕ
 point_named f = unsigned_abs (value_of f) - 1
 
--- one of the earlier fields names the same point
-abbrev pub named_before : List (List ℕ) → List ℕ → Bool
-named_before [] f = false
-named_before (e ∷ es) f = point_named f == point_named e || named_before es f
-
-abbrev pub naming_checks : ℕ → Spot → List ℕ → List Check
-naming_checks points s f = numeral_checks s f ++ (check (not (names_point points f)) 4 Line s ∷ [])
-
-abbrev pub corner_checks : ℕ → Spot → List (List ℕ) → List ℕ → List Check
-corner_checks points s earlier f = naming_checks points s f ++ (check (named_before earlier f) 5 Line s ∷ [])
+abbrev pub corner_checks : ℕ → Spot → List ℕ → List ℕ → List Check
+corner_checks points s earlier f =
+    numeral_checks s f
+    ++ (check (not (names_point points f)) 4 Line s
+    ∷ (check (list_any (λ e. e == point_named f) earlier) 5 Line s
+    ∷ []))
 
 -- A LINE
 
@@ -76,8 +73,8 @@ point_checks n fs =
 abbrev pub face_checks : ℕ → ℕ → Fields → List Check
 face_checks n points fs =
     corner_checks points (spot n 1) [] fs.first
-    ++ (corner_checks points (spot n 2) (fs.first ∷ []) fs.second
-    ++ corner_checks points (spot n 3) (fs.first ∷ (fs.second ∷ [])) fs.third)
+    ++ (corner_checks points (spot n 2) (point_named fs.first ∷ []) fs.second
+    ++ corner_checks points (spot n 3) (point_named fs.first ∷ (point_named fs.second ∷ [])) fs.third)
 
 abbrev pub content_checks : ℕ → ℕ → Content → List Check
 content_checks n points skipped = []
@@ -90,24 +87,24 @@ content_checks n points no_start = check true 2 Line (spot n 0) ∷ []
 abbrev pub at_rest : Coords → Point
 at_rest p = record { start = p; end = p }
 
-abbrev pub point_said : Fields → Point
-point_said fs = at_rest (record { x = value_of fs.first; y = value_of fs.second; z = value_of fs.third })
+abbrev pub point_from : Fields → Point
+point_from fs = at_rest (record { x = value_of fs.first; y = value_of fs.second; z = value_of fs.third })
 
-abbrev pub face_said : Fields → Face
-face_said fs = record { a = point_named fs.first; b = point_named fs.second; c = point_named fs.third }
+abbrev pub face_from : Fields → Face
+face_from fs = record { a = point_named fs.first; b = point_named fs.second; c = point_named fs.third }
 
-abbrev pub said : Content → Entry
-said skipped = entry.Nothing
-said (point fs) = entry.Point (point_said fs)
-said (face fs) = entry.Face (face_said fs)
-said no_start = entry.Nothing
+abbrev pub entry_from : Content → Entry
+entry_from skipped = entry.Nothing
+entry_from (point fs) = entry.Point (point_from fs)
+entry_from (face fs) = entry.Face (face_from fs)
+entry_from no_start = entry.Nothing
 
 abbrev pub entry_of : List ℕ → Entry
-entry_of l = said (content_of l)
+entry_of l = entry_from (content_of l)
 
 -- A SHEET
 
--- the points and the faces that lines say, in their order
+-- what numbered lines say, in their order: points and faces
 
 abbrev pub point_row : Entry → List Point
 point_row entry.Nothing = []
@@ -119,16 +116,20 @@ face_row entry.Nothing = []
 face_row (entry.Point p) = []
 face_row (entry.Face f) = f ∷ []
 
-abbrev pub points_in : List (List ℕ) → List Point
-points_in [] = []
-points_in (l ∷ ls) = point_row (entry_of l) ++ points_in ls
+abbrev pub points_in : List (ℕ × List ℕ) → List Point
+points_in ls = flat_map (λ l. point_row (entry_of l.1)) ls
 
-abbrev pub faces_in : List (List ℕ) → List Face
-faces_in [] = []
-faces_in (l ∷ ls) = face_row (entry_of l) ++ faces_in ls
+abbrev pub faces_in : List (ℕ × List ℕ) → List Face
+faces_in ls = flat_map (λ l. face_row (entry_of l.1)) ls
 
-abbrev pub counts_of : List (List ℕ) → Counts
-counts_of ls = record { points = length (points_in ls); faces = length (faces_in ls) }
+abbrev pub none : Counts
+none = record { points = 0; faces = 0 }
+
+-- what stands above a line, and what the line says
+abbrev pub counting : Counts → Entry → Counts
+counting above entry.Nothing = above
+counting above (entry.Point p) = record { points = above.points + 1; faces = above.faces }
+counting above (entry.Face f) = record { points = above.points; faces = above.faces + 1 }
 
 -- there is room for what a line says, after what stands above it
 abbrev pub has_place : Counts → Counts → Entry → Bool
@@ -136,15 +137,15 @@ has_place room above entry.Nothing = true
 has_place room above (entry.Point p) = nat_lt above.points room.points
 has_place room above (entry.Face f) = nat_lt above.faces room.faces
 
--- all checks of line n
-abbrev pub line_checks : Counts → ℕ → Counts → List ℕ → List Check
-line_checks room n above l =
-    content_checks n above.points (content_of l) ++ (check (not (has_place room above (entry_of l))) 7 Sheet (spot n 0) ∷ [])
+-- all checks of a numbered line, below what stands above it
+abbrev pub line_checks : Counts → Counts → ℕ × List ℕ → List Check
+line_checks room above l =
+    content_checks l.0 above.points (content_of l.1) ++ (check (not (has_place room above (entry_of l.1))) 7 Sheet (spot l.0 0) ∷ [])
 
--- those of some lines below others
-abbrev pub lines_checks : Counts → List (List ℕ) → List (List ℕ) → List Check
+-- those of one line after another
+abbrev pub lines_checks : Counts → Counts → List (ℕ × List ℕ) → List Check
 lines_checks room above [] = []
-lines_checks room above (l ∷ ls) = line_checks room (length above + 1) (counts_of above) l ++ lines_checks room (above ++ (l ∷ [])) ls
+lines_checks room above (l ∷ ls) = line_checks room above l ++ lines_checks room (counting above (entry_of l.1)) ls
 
 -- the room in tables of so many places
 abbrev pub room_in : ℕ → ℕ → Counts
@@ -152,12 +153,12 @@ room_in points faces = record { points = min points point_limit; faces = min fac
 
 -- all checks of a text, for such tables
 abbrev pub sheet_checks : List ℕ → ℕ → ℕ → List Check
-sheet_checks text points faces = check (nat_lt text_limit (length text)) 6 Sheet (spot 0 0) ∷ lines_checks (room_in points faces) [] (lines_of text)
+sheet_checks text points faces = check (nat_lt text_limit (length text)) 6 Sheet (spot 0 0) ∷ lines_checks (room_in points faces) none (numbered text)
 
 -- the draft of a text that passes them
 abbrev pub draft_of : List ℕ → Draft
-draft_of text = record { points = length (points_in (lines_of text)); faces = length (faces_in (lines_of text)) }
+draft_of text = record { points = length (points_in (numbered text)); faces = length (faces_in (numbered text)) }
 
 -- rows in place of the first of a table, and the rest of it
-abbrev pub overlaid : {X : Type 0} → List X → List X → List X
-overlaid rows table = rows ++ drop (length rows) table
+abbrev pub onto_front : {X : Type 0} → List X → List X → List X
+onto_front rows table = rows ++ drop (length rows) table

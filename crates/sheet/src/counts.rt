@@ -1,7 +1,7 @@
 // How many points and faces: those above a line, or those that there is room for.
 ghost use Rattle.std.specs.Prelude.{◌≡◌, true};
-ghost use Rattle.sheet.specs.Passes.{counting, widest};
-ghost use Rattle.sheet.specs.Sheet.{has_place};
+ghost use Rattle.sheet.specs.Passes.{widest};
+ghost use Rattle.sheet.specs.Sheet.{counting, has_place};
 
 use crate::lines::Entry;
 

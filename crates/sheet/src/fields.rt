@@ -1,6 +1,6 @@
 // The fields of a line, and the number that a field writes.
 ghost use Rattle.std.specs.Prelude.{◌≡◌, ◌^◌, ◌<◌, IfOk};
-ghost use Rattle.sheet.specs.Checks.{answer, told};
+ghost use Rattle.sheet.specs.Checks.{first_fit, fault_notice};
 ghost use Rattle.sheet.specs.Faults.{notice_of_field};
 ghost use Rattle.sheet.specs.Lines.{fields_of};
 ghost use Rattle.sheet.specs.Numerals.{is_negative, digits_of, digits_after, one_to_five, with_sign, value_of};
@@ -18,7 +18,9 @@ pub(crate) struct Fields<'a> {
 }
 
 pub(crate) fn split_fields(text: &[u8]) -> Fields<'_>
-    ensures { record { first = result.first.now; second = result.second.now; third = result.third.now } ≡ fields_of text.now }
+    ensures first { result.first.now ≡ (fields_of text.now).first }
+    ensures second { result.second.now ≡ (fields_of text.now).second }
+    ensures third { result.third.now ≡ (fields_of text.now).third }
 {
     let (first, rest) = cut(text, b' ');
     let (second, third) = cut(rest, b' ');
@@ -31,7 +33,8 @@ pub(crate) fn split_fields(text: &[u8]) -> Fields<'_>
 
 /// The number that a field writes: an optional minus and one to five digits.
 pub(crate) fn number(field: &[u8], at: Spot) -> Result<i32, FieldFault>
-    ensures { told notice_of_field result ≡ answer (numeral_checks at field.now) (value_of field.now) }
+    ensures fault { fault_notice notice_of_field result ≡ first_fit (numeral_checks at field.now) }
+    ensures value { IfOk result (λ n. n ≡ value_of field.now) }
 {
     let (negative, digits) = split_sign(field);
     let n = magnitude(digits, at)?;
@@ -61,7 +64,8 @@ fn with_sign(n: u32, negative: bool) -> i32
 
 /// The number that one to five digits write.
 fn magnitude(digits: &[u8], at: Spot) -> Result<u32, FieldFault>
-    ensures value { told notice_of_field result ≡ answer (magnitude_checks at digits.now) (digits_after 0 digits.now) }
+    ensures fault { fault_notice notice_of_field result ≡ first_fit (magnitude_checks at digits.now) }
+    ensures value { IfOk result (λ n. n ≡ digits_after 0 digits.now) }
     ensures small { IfOk result (λ n. n < 10 ^ 5) }
 {
     if !one_to_five(digits) {

@@ -10,9 +10,10 @@ mod lines;
 mod notices;
 mod reader;
 mod rows;
+mod splitting;
 
 pub use drafts::Draft;
 pub use faults::{FieldFault, LineFault, SheetFault, Spot};
 pub use notices::{Layer, Notice};
 pub use reader::{TEXT_LIMIT, read_sheet};
-pub use rows::{COORDINATE_BOUND, Coords, FACE_LIMIT, Face, POINT_LIMIT, Point, held};
+pub use rows::{COORDINATE_BOUND, Coords, FACE_LIMIT, Face, POINT_LIMIT, Point, coordinate_of};

@@ -1,28 +1,17 @@
-// The lines of a text, and what one line says.
-ghost use Rattle.std.specs.Prelude.{◌≡◌, false, ◌||◌, ◌∷◌, MatchResult, ◌==◌};
-ghost use Rattle.sheet.specs.Bytes.{line_feed, space};
-ghost use Rattle.sheet.specs.Checks.{answer, told};
-ghost use Rattle.sheet.specs.Cuts.{before, after};
+// What one line says.
+ghost use Rattle.std.specs.Prelude.{◌≡◌, false, ◌∷◌, MatchResult, IfOk};
+ghost use Rattle.sheet.specs.Bytes.{space};
+ghost use Rattle.sheet.specs.Checks.{first_fit, fault_notice};
 ghost use Rattle.sheet.specs.Faults.{notice_of_line};
 ghost use Rattle.sheet.specs.Lines.{content_of, fields_of, starts_with_space};
 ghost use Rattle.sheet.specs.Numerals.{value_of};
-ghost use Rattle.sheet.specs.Sheet.{coordinate_checks, naming_checks, point_checks, face_checks, content_checks, point_named, point_said, face_said, entry_of};
+ghost use Rattle.sheet.specs.Sheet.{coordinate_checks, corner_checks, point_checks, face_checks, content_checks, point_named, point_from, face_from, entry_of};
 ghost use Rattle.sheet.specs.declared.faults.LineFault.TheVariants.{NoSuchStart};
 
-use crate::cuts::cut;
 use crate::faults::{LineFault, Spot};
 use crate::fields::{number, split_fields};
 use crate::rows::{COORDINATE_BOUND, Coords, Face, Point};
-
-/// Lines are numbered from 1.
-pub(crate) const FIRST_LINE: u32 = 1;
-
-/// A line: a part of the text, without its line feed, and its number.
-#[derive(Clone, Copy)]
-pub(crate) struct Line<'a> {
-    pub(crate) bytes: &'a [u8],
-    pub(crate) number: u32,
-}
+use crate::splitting::Line;
 
 /// What a line says.
 #[derive(Clone, Copy)]
@@ -32,19 +21,10 @@ pub(crate) enum Entry {
     Face(Face),
 }
 
-/// The first line of `text`, which has the number `number`, and what follows it.
-pub(crate) fn split_line(text: &[u8], number: u32) -> (Line<'_>, &[u8])
-    ensures bytes { result.0.bytes.now ≡ before line_feed text.now }
-    ensures number { result.0.number ≡ number }
-    ensures rest { result.1.now ≡ after line_feed text.now }
-{
-    let (bytes, rest) = cut(text, b'\n');
-    (Line { bytes, number }, rest)
-}
-
 /// What `line` says, where `points` points stand above it.
 pub(crate) fn read_line(line: Line<'_>, points: u16) -> Result<Entry, LineFault>
-    ensures { told notice_of_line result ≡ answer (content_checks line.entry.number points (content_of line.entry.bytes.now)) (entry_of line.entry.bytes.now) }
+    ensures fault { fault_notice notice_of_line result ≡ first_fit (content_checks line.entry.number points (content_of line.entry.bytes.now)) }
+    ensures entry { IfOk result (λ e. e ≡ entry_of line.entry.bytes.now) }
 {
     let number = line.number;
     let [letter, rest @ ..] = line.bytes else {
@@ -73,7 +53,8 @@ fn after_space(rest: &[u8], line: u32) -> Result<&[u8], LineFault>
 
 /// The point whose coordinates are the fields of `text`, in the line `line`. It rests.
 fn read_point(text: &[u8], line: u32) -> Result<Point, LineFault>
-    ensures { told notice_of_line result ≡ answer (point_checks line (fields_of text.now)) (point_said (fields_of text.now)) }
+    ensures fault { fault_notice notice_of_line result ≡ first_fit (point_checks line (fields_of text.now)) }
+    ensures point { IfOk result (λ p. p ≡ point_from (fields_of text.now)) }
 {
     let fields = split_fields(text);
     let x = coordinate(fields.first, Spot { line, field: 1 })?;
@@ -84,13 +65,12 @@ fn read_point(text: &[u8], line: u32) -> Result<Point, LineFault>
 }
 
 fn coordinate(field: &[u8], at: Spot) -> Result<i16, LineFault>
-    ensures { told notice_of_line result ≡ answer (coordinate_checks at field.now) (value_of field.now) }
+    ensures fault { fault_notice notice_of_line result ≡ first_fit (coordinate_checks at field.now) }
+    ensures value { IfOk result (λ v. v ≡ value_of field.now) }
 {
     let value = number(field, at)?;
-    if value < -(COORDINATE_BOUND as i32) {
-        return Err(LineFault::CoordinateOutside(at));
-    }
-    if value > COORDINATE_BOUND as i32 {
+    let bound = i32::from(COORDINATE_BOUND);
+    if value < -bound || value > bound {
         return Err(LineFault::CoordinateOutside(at));
     }
     Ok(value as i16)
@@ -98,39 +78,28 @@ fn coordinate(field: &[u8], at: Spot) -> Result<i16, LineFault>
 
 /// The face whose corners the fields of `text` name, in the line `line`, below `points` points.
 fn read_face(text: &[u8], line: u32, points: u16) -> Result<Face, LineFault>
-    ensures { told notice_of_line result ≡ answer (face_checks line points (fields_of text.now)) (face_said (fields_of text.now)) }
+    ensures fault { fault_notice notice_of_line result ≡ first_fit (face_checks line points (fields_of text.now)) }
+    ensures face { IfOk result (λ f. f ≡ face_from (fields_of text.now)) }
 {
     let fields = split_fields(text);
-    let second = Spot { line, field: 2 };
-    let third = Spot { line, field: 3 };
-    let a = corner(fields.first, Spot { line, field: 1 }, points)?;
-    let b = corner(fields.second, second, points)?;
-    if b == a {
-        return Err(LineFault::NamedBefore(second));
-    }
-    let c = corner(fields.third, third, points)?;
-    if repeats(c, a, b) {
-        return Err(LineFault::NamedBefore(third));
-    }
+    let a = corner(fields.first, Spot { line, field: 1 }, points, &[])?;
+    let b = corner(fields.second, Spot { line, field: 2 }, points, &[a])?;
+    let c = corner(fields.third, Spot { line, field: 3 }, points, &[a, b])?;
     Ok(Face { a, b, c })
 }
 
-fn repeats(c: u16, a: u16, b: u16) -> bool
-    ensures { result ≡ (c == a || c == b) }
-{
-    c == a || c == b
-}
-
-/// The number, from 0, of the point that a field names by its number from 1.
-fn corner(field: &[u8], at: Spot, points: u16) -> Result<u16, LineFault>
-    ensures { told notice_of_line result ≡ answer (naming_checks points at field.now) (point_named field.now) }
+/// The number, from 0, of the point that a field names by its number from 1, other than the `earlier` ones.
+fn corner(field: &[u8], at: Spot, points: u16, earlier: &[u16]) -> Result<u16, LineFault>
+    ensures fault { fault_notice notice_of_line result ≡ first_fit (corner_checks points at earlier.now field.now) }
+    ensures named { IfOk result (λ n. n ≡ point_named field.now) }
 {
     let value = number(field, at)?;
-    if value < 1 {
+    if value < 1 || value > i32::from(points) {
         return Err(LineFault::NoSuchPoint(at));
     }
-    if value > points as i32 {
-        return Err(LineFault::NoSuchPoint(at));
+    let point = (value - 1) as u16;
+    if earlier.contains(&point) {
+        return Err(LineFault::NamedBefore(at));
     }
-    Ok((value - 1) as u16)
+    Ok(point)
 }

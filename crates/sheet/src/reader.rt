@@ -1,16 +1,18 @@
 // Reads a sheet in two passes: the first finds the first fault, or that there is none; the second writes the rows.
 ghost use Rattle.std.specs.Prelude.{◌≡◌, ◌≤◌, true, length, is_ok, IfOk, if◌then◌else◌, None};
-ghost use Rattle.sheet.specs.Checks.{first_fit, answer, told};
+ghost use Rattle.sheet.specs.Checks.{first_fit, fault_notice};
 ghost use Rattle.sheet.specs.Faults.{notice_of_sheet};
-ghost use Rattle.sheet.specs.Lines.{lines_of};
-ghost use Rattle.sheet.specs.Passes.{none, total, pass_checks, with_point, with_face};
-ghost use Rattle.sheet.specs.Sheet.{text_limit, line_checks, sheet_checks, has_place, entry_of, points_in, faces_in, draft_of, overlaid};
+ghost use Rattle.sheet.specs.Lines.{numbered};
+ghost use Rattle.sheet.specs.Numbered.{line_read};
+ghost use Rattle.sheet.specs.Passes.{total, with_point, with_face};
+ghost use Rattle.sheet.specs.Sheet.{text_limit, none, line_checks, lines_checks, sheet_checks, has_place, entry_of, points_in, faces_in, draft_of, onto_front};
 
 use crate::counts::Counts;
 use crate::drafts::Draft;
 use crate::faults::{SheetFault, Spot};
-use crate::lines::{Entry, FIRST_LINE, Line, read_line, split_line};
+use crate::lines::{Entry, read_line};
 use crate::rows::{FACE_LIMIT, Face, POINT_LIMIT, Point};
+use crate::splitting::{Line, lines_in};
 
 /// A text has at most 65,536 bytes.
 pub const TEXT_LIMIT: usize = 65536;
@@ -21,9 +23,10 @@ pub fn read_sheet(
     points: &mut [Point],
     faces: &mut [Face],
 ) -> Result<Draft, SheetFault>
-    ensures answer { told notice_of_sheet result ≡ answer (sheet_checks text.now (length points.old) (length faces.old)) (draft_of text.now) }
-    ensures points { points.new ≡ (if is_ok result then overlaid (points_in (lines_of text.now)) points.old else points.old) }
-    ensures faces { faces.new ≡ (if is_ok result then overlaid (faces_in (lines_of text.now)) faces.old else faces.old) }
+    ensures fault { fault_notice notice_of_sheet result ≡ first_fit (sheet_checks text.now (length points.old) (length faces.old)) }
+    ensures draft { IfOk result (λ d. d ≡ draft_of text.now) }
+    ensures points { points.new ≡ (if is_ok result then onto_front (points_in (numbered text.now)) points.old else points.old) }
+    ensures faces { faces.new ≡ (if is_ok result then onto_front (faces_in (numbered text.now)) faces.old else faces.old) }
 {
     if text.len() > TEXT_LIMIT {
         return Err(SheetFault::TextTooLong);
@@ -42,17 +45,13 @@ pub fn read_sheet(
 /// The counts of the sheet that `text` writes, or its first fault.
 fn survey(text: &[u8], room: Counts) -> Result<Counts, SheetFault>
     requires { length text.now ≤ text_limit }
-    ensures { told notice_of_sheet result ≡ answer (pass_checks room 1 none (lines_of text.now)) (total none (lines_of text.now)) }
+    ensures fault { fault_notice notice_of_sheet result ≡ first_fit (lines_checks room none (numbered text.now)) }
+    ensures counts { IfOk result (λ c. c ≡ total none (numbered text.now)) }
 {
     let mut above = Counts::NONE;
-    let mut rest = text;
-    let mut number = FIRST_LINE;
-    while !rest.is_empty() {
-        let (line, after) = split_line(rest, number);
+    for line in lines_in(text) {
         let entry = admit(line, above, room)?;
         above = above.counting(entry);
-        rest = after;
-        number += 1;
     }
     Ok(above)
 }
@@ -62,28 +61,24 @@ fn fill(text: &[u8], room: Counts, points: &mut [Point], faces: &mut [Face])
     requires short { length text.now ≤ text_limit }
     requires point_places { room.points ≤ length points.old }
     requires face_places { room.faces ≤ length faces.old }
-    requires good { first_fit (pass_checks room 1 none (lines_of text.now)) ≡ None }
-    ensures points { points.new ≡ overlaid (points_in (lines_of text.now)) points.old }
-    ensures faces { faces.new ≡ overlaid (faces_in (lines_of text.now)) faces.old }
+    requires good { first_fit (lines_checks room none (numbered text.now)) ≡ None }
+    ensures points { points.new ≡ onto_front (points_in (numbered text.now)) points.old }
+    ensures faces { faces.new ≡ onto_front (faces_in (numbered text.now)) faces.old }
 {
     let mut above = Counts::NONE;
-    let mut rest = text;
-    let mut number = FIRST_LINE;
-    while !rest.is_empty() {
-        let (line, after) = split_line(rest, number);
+    for line in lines_in(text) {
         let Ok(entry) = admit(line, above, room) else {
             unreachable()
         };
         store(entry, above, points, faces);
         above = above.counting(entry);
-        rest = after;
-        number += 1;
     }
 }
 
 /// What `line` says, below `above`, if it has no fault and there is room for its row.
 fn admit(line: Line<'_>, above: Counts, room: Counts) -> Result<Entry, SheetFault>
-    ensures answer { told notice_of_sheet result ≡ answer (line_checks room line.entry.number above line.entry.bytes.now) (entry_of line.entry.bytes.now) }
+    ensures fault { fault_notice notice_of_sheet result ≡ first_fit (line_checks room above (line_read line.entry)) }
+    ensures entry { IfOk result (λ e. e ≡ entry_of line.entry.bytes.now) }
     ensures place { IfOk result (λ e. has_place room above e ≡ true) }
 {
     let entry = read_line(line, above.points)?;

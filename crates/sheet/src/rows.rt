@@ -1,6 +1,6 @@
 // Rows of the caller's tables.
 ghost use Rattle.std.specs.Prelude.{◌≡◌, true};
-ghost use Rattle.sheet.specs.Counted.{held, counted, in_range};
+ghost use Rattle.sheet.specs.Counted.{coordinate_of, counted, in_range};
 
 /// A coordinate lies from −4,096 to 4,096.
 pub const COORDINATE_BOUND: i16 = 4096;
@@ -38,16 +38,16 @@ impl Coords {
     pub fn counted(self) -> Coords
         ensures { result ≡ counted self }
     {
-        let x = held(self.x);
-        let y = held(self.y);
-        let z = held(self.z);
+        let x = coordinate_of(self.x);
+        let y = coordinate_of(self.y);
+        let z = coordinate_of(self.z);
         Coords { x, y, z }
     }
 }
 
 /// A coordinate as it counts.
-pub fn held(value: i16) -> i16
-    ensures value { result ≡ held value }
+pub fn coordinate_of(value: i16) -> i16
+    ensures value { result ≡ coordinate_of value }
     ensures within { in_range result ≡ true }
 {
     if value < -COORDINATE_BOUND {

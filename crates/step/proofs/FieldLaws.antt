@@ -1,21 +1,14 @@
 -- One field: what is written of a move reads back, and what is read is what is written.
-use Rattle.std.proofs.Common.{◌≡◌, ℕ, ◌+◌, ◌*◌, ◌/◌, ◌%◌, ◌<◌, ◌≤◌, Bool, true, false, cond, not, ltb, List, [], ◌∷◌, ◌++◌, length, get_or, drop, ℤ, pos, ◌+ℤ◌, ◌-ℤ◌, Some, None, Option, sym, refl, ap, ◌∙◌, arith, w16, SFits, to_z}
+use Rattle.std.proofs.Common.{◌≡◌, ℕ, ◌+◌, ◌*◌, ◌/◌, ◌%◌, ◌<◌, ◌≤◌, Bool, true, false, cond, not, ltb, List, [], ◌∷◌, ◌++◌, length, get_or, drop, ℤ, pos, ◌+ℤ◌, ◌-ℤ◌, Some, None, sym, refl, ap, ◌∙◌, arith, w16, SFits, to_z}
 use lib.Signed.{le_z}
 use Rattle.std.proofs.lemmas.Int.{ints, to_z-of_z, of_z-to_z}
 use Rattle.std.proofs.lemmas.Bool.{cond-false, eqb-true, ltb-false, le-ltb, and_parts, not-false, not_from_true}
 use Rattle.sheet.specs.Checks.{Check, first_fit}
 use Rattle.sheet.specs.Counted.{least, greatest, in_range}
-use Rattle.sheet.specs.declared.notices.Notice.{Notice}
+use Rattle.sheet.proofs.FirstFit.{no_fit}
 use Rattle.step.specs.Laying.{check, move_in, field_checks, end_in, after_field}
 use Rattle.step.specs.Record.{word, is_zero, field_of}
 use Rattle.step.specs.declared.faults.At.{At}
-
-by-none : (b : Bool) (n : Notice) (o : Option Notice) → cond b (Some n) o ≡ None → (b ≡ false) × (o ≡ None)
-by-none true n o e = (cc, cc)
-by-none false n o e = (refl, e)
-
-pub no-fit : (c : Check) (cs : List Check) → first_fit (c ∷ cs) ≡ None → (c.fits ≡ false) × (first_fit cs ≡ None)
-no-fit c cs e = by-none c.fits c.tells (first_fit cs) e
 
 pub fit_none : (c : Check) (cs : List Check) → c.fits ≡ false → first_fit cs ≡ None → first_fit (c ∷ cs) ≡ None
 fit_none c cs e f = cond-false c.fits (Some c.tells) (first_fit cs) e ∙ f
@@ -109,9 +102,9 @@ two-or-more s (x ∷ (y ∷ r)) B l z = spelt x y r (B 0) (B 1) z
 pub field-only : (a : At) (stands : Bool) (s : ℤ) (bs : List ℕ) → Bytes bs → in_range s ≡ true → first_fit (field_checks a stands s bs) ≡ None → WrittenSo stands s bs
 field-only a false s bs B p g = record { ranges = p; bit = ap is_zero (no_move s); bytes = ap (λ v. field_of v ++ bs) (no_move s) }
 field-only a true s bs B p g =
-    let c8 = no-fit (check (ltb (length bs) 2) 8 a) (from_ten a s bs) g in
-    let c10 = no-fit (check (is_zero (move_in bs)) 10 a) (from_eleven a s bs) c8.1 in
-    let c11 = no-fit (check (not (in_range (s +ℤ move_in bs))) 11 a) [] c10.1 in
+    let c8 = no_fit (check (ltb (length bs) 2) 8 a) (from_ten a s bs) g in
+    let c10 = no_fit (check (is_zero (move_in bs)) 10 a) (from_eleven a s bs) c8.1 in
+    let c11 = no_fit (check (not (in_range (s +ℤ move_in bs))) 11 a) [] c10.1 in
     record {
       ranges = not-false _ c11.0;
       bit = ap is_zero (sub_back s (move_in bs)) ∙ c10.0;

@@ -1,12 +1,10 @@
-pub mod FieldAnswers
 pub mod FieldLaws
 pub mod FrameLaws
 pub mod LayAnswers
 pub mod LongestRecord
-pub mod Pasting
+pub mod Passing
 pub mod PointAnswers
 pub mod PointLaws
-pub mod RowAnswers
 pub mod StepLaws
 pub mod Tables
 pub mod WriteAnswers

@@ -5,13 +5,14 @@ use Rattle.std.proofs.lemmas.Bool.{cond-true, cond-false, eq-eqb, ne_eqb, eqb-fa
 use Rattle.sheet.specs.Checks.{Check, first_fit}
 use Rattle.sheet.specs.Counted.{in_range}
 use Rattle.sheet.specs.declared.rows.Coords.{Coords}
+use Rattle.sheet.proofs.FirstFit.{no_fit, none_parts}
 use Rattle.step.specs.Faults.{place}
-use Rattle.step.specs.Laying.{check, after_field, bit_stands, map_in, x_field, y_field, z_field, after_point, point_checks, end_of}
+use Rattle.step.specs.Laying.{check, after_field, bit_stands, map_in, after_point, point_checks, end_of}
 use Rattle.step.specs.Record.{is_zero, field_of, map_byte, moves_record}
 use Rattle.step.specs.Steps.{within}
 use Rattle.step.specs.declared.faults.At.{At}
-use Rattle.step.proofs.PointAnswers.{x_checks, y_checks, z_checks}
-use Rattle.step.proofs.FieldLaws.{no-fit, fit_none, Bytes, ReadBack, field_back, field-only}
+use Rattle.step.proofs.PointAnswers.{x_field, y_field, z_field, x_checks, y_checks, z_checks}
+use Rattle.step.proofs.FieldLaws.{fit_none, Bytes, ReadBack, field_back, field-only}
 
 -- how far each coordinate goes
 abbrev pub apart : Coords → Coords → Coords
@@ -72,11 +73,7 @@ pub record PointBack (i : ℕ) (s e : Coords) (bs r : List ℕ) : Type 0 where
 
 pub none-append : (cs ds : List Check) → first_fit cs ≡ None → first_fit ds ≡ None → first_fit (cs ++ ds) ≡ None
 none-append [] ds e f = f
-none-append (c ∷ cs) ds e f = let p = no-fit c cs e in fit_none c (cs ++ ds) p.0 (none-append cs ds p.1 f)
-
-pub none-parts : (cs ds : List Check) → first_fit (cs ++ ds) ≡ None → (first_fit cs ≡ None) × (first_fit ds ≡ None)
-none-parts [] ds e = (refl, e)
-none-parts (c ∷ cs) ds e = let p = no-fit c (cs ++ ds) e in let q = none-parts cs ds p.1 in (fit_none c cs p.0 q.0, q.1)
+none-append (c ∷ cs) ds e f = let p = no_fit c cs e in fit_none c (cs ++ ds) p.0 (none-append cs ds p.1 f)
 
 abbrev all_fields : ℕ → Coords → List ℕ → List Check
 all_fields i s bs = x_checks i s bs ++ (y_checks i s bs ++ z_checks i s bs)
@@ -171,8 +168,8 @@ front_of (b ∷ bs) e = refl
 
 pub point-only : (i : ℕ) (s : Coords) (bs : List ℕ) → Bytes bs → within s ≡ true → first_fit (point_checks i s bs) ≡ None → PointOnly s bs
 point-only i s bs B p g =
-    let c8 = no-fit (no_byte i bs) (over_seven i bs ∷ all_fields i s bs) g in
-    let c9 = no-fit (over_seven i bs) (all_fields i s bs) c8.1 in
-    let x = none-parts (x_checks i s bs) (y_checks i s bs ++ z_checks i s bs) c9.1 in
-    let y = none-parts (y_checks i s bs) (z_checks i s bs) x.1 in
+    let c8 = no_fit (no_byte i bs) (over_seven i bs ∷ all_fields i s bs) g in
+    let c9 = no_fit (over_seven i bs) (all_fields i s bs) c8.1 in
+    let x = none_parts (x_checks i s bs) (y_checks i s bs ++ z_checks i s bs) c9.1 in
+    let y = none_parts (y_checks i s bs) (z_checks i s bs) x.1 in
     by_map i s bs B p c9.0 x.0 y.0 y.1 (front_of bs c8.0)

@@ -1,5 +1,5 @@
 -- Laying a record onto points: the checks at each place of it, and the ends that it gives.
-use Rattle.std.specs.Prelude.{ℕ, ◌+◌, ◌*◌, ◌/◌, ◌%◌, Bool, cond, not, List, [], ◌∷◌, ◌++◌, length, take, drop, ℤ, ◌+ℤ◌, ◌==◌, nat_lt, slice_index}
+use Rattle.std.specs.Prelude.{◌≡◌, ℕ, ◌+◌, ◌*◌, ◌/◌, ◌%◌, Bool, cond, not, List, [], ◌∷◌, ◌++◌, length, take, drop, ℤ, ◌+ℤ◌, ◌==◌, nat_lt, slice_index}
 use Rattle.std.proofs.Common.{to_z}
 use Rattle.std.specs.Int.{w16}
 use Rattle.sheet.specs.Checks.{Check}
@@ -38,34 +38,41 @@ after_field stands bs = cond stands (drop 2 bs) bs
 abbrev pub bit_stands : ℕ → ℕ → Bool
 bit_stands map k = not (map / k % 2 == 0)
 
--- what follows the map, and the fields one after the other
+-- ---- the fields behind a map m, one after the other
+module _ (m : ℕ) where
+  -- what stands behind the fields of x and of y
+  abbrev pub after_x : List ℕ → List ℕ
+  after_x xs = after_field (bit_stands m 1) xs
+
+  abbrev pub after_y : List ℕ → List ℕ
+  after_y xs = after_field (bit_stands m 2) (after_x xs)
+
+  abbrev pub after_fields : List ℕ → List ℕ
+  after_fields xs = after_field (bit_stands m 4) (after_y xs)
+
+  -- the checks of the fields of point i, which counts to start at s
+  abbrev pub fields_checks : ℕ → Coords → List ℕ → List Check
+  fields_checks i s xs =
+      field_checks (place i 1) (bit_stands m 1) s.x xs
+      ++ (field_checks (place i 2) (bit_stands m 2) s.y (after_x xs)
+      ++ field_checks (place i 3) (bit_stands m 4) s.z (after_y xs))
+
+  -- the end that they give
+  abbrev pub ends_of : Coords → List ℕ → Coords
+  ends_of s xs = record { x = end_in (bit_stands m 1) s.x xs; y = end_in (bit_stands m 2) s.y (after_x xs); z = end_in (bit_stands m 4) s.z (after_y xs) }
 
 abbrev pub map_in : List ℕ → ℕ
 map_in bs = slice_index bs 0
 
-abbrev pub x_field : List ℕ → List ℕ
-x_field bs = drop 1 bs
-
-abbrev pub y_field : List ℕ → List ℕ
-y_field bs = after_field (bit_stands (map_in bs) 1) (x_field bs)
-
-abbrev pub z_field : List ℕ → List ℕ
-z_field bs = after_field (bit_stands (map_in bs) 2) (y_field bs)
-
-abbrev pub after_point : List ℕ → List ℕ
-after_point bs = after_field (bit_stands (map_in bs) 4) (z_field bs)
-
--- the checks of point i, which counts to start at s
+-- the checks of a point, its end, and what follows it
 abbrev pub point_checks : ℕ → Coords → List ℕ → List Check
-point_checks i s bs =
-    check (length bs == 0) 8 (place i 0)
-    ∷ (check (nat_lt 7 (map_in bs)) 9 (place i 0)
-    ∷ (field_checks (place i 1) (bit_stands (map_in bs) 1) s.x (x_field bs)
-    ++ (field_checks (place i 2) (bit_stands (map_in bs) 2) s.y (y_field bs)
-    ++ field_checks (place i 3) (bit_stands (map_in bs) 4) s.z (z_field bs))))
+point_checks i s bs = check (length bs == 0) 8 (place i 0) ∷ (check (nat_lt 7 (map_in bs)) 9 (place i 0) ∷ fields_checks (map_in bs) i s (drop 1 bs))
 
 abbrev pub end_of : Coords → List ℕ → Coords
-end_of s bs = record { x = end_in (bit_stands (map_in bs) 1) s.x (x_field bs); y = end_in (bit_stands (map_in bs) 2) s.y (y_field bs); z = end_in (bit_stands (map_in bs) 4) s.z (z_field bs) }
+end_of s bs = ends_of (map_in bs) s (drop 1 bs)
+
+abbrev pub after_point : List ℕ → List ℕ
+after_point bs = after_fields (map_in bs) (drop 1 bs)
 
 -- A TABLE
 
@@ -73,15 +80,19 @@ abbrev pub rows_checks : ℕ → List Point → List ℕ → List Check
 rows_checks i [] bs = check (not (length bs == 0)) 12 (place 0 0) ∷ []
 rows_checks i (p ∷ ps) bs = point_checks i (counted p.start) bs ++ rows_checks (i + 1) ps (after_point bs)
 
+-- what is left of the rows when f leaves so much of each, given its new end
+abbrev pub rows_left : (Point → Coords → Point) → List Point → List ℕ → List Point
+rows_left f [] bs = []
+rows_left f (p ∷ ps) bs = f p (end_of (counted p.start) bs) ∷ rows_left f ps (after_point bs)
+
+-- f leaves each row as it was
+abbrev pub IsKept : (Point → Coords → Point) → Type 0
+IsKept f = (p : Point) (e : Coords) → f p e ≡ p
+
 -- the rows with their new ends; starts keep what they hold
-abbrev pub laid : List Point → List ℕ → List Point
-laid [] bs = []
-laid (p ∷ ps) bs = record { start = p.start; end = end_of (counted p.start) bs } ∷ laid ps (after_point bs)
+abbrev pub with_ends : List Point → List ℕ → List Point
+with_ends ps bs = rows_left (λ p e. record { start = p.start; end = e }) ps bs
 
 -- all checks of a record, for the first n rows of a table
 abbrev pub lay_checks : ℕ → List Point → List ℕ → List Check
 lay_checks n points bs = check (nat_lt (length points) n) 13 (place 0 0) ∷ rows_checks 0 (take n points) bs
-
--- the answer of a call that says no more than that it is done
-abbrev pub done : Unit {0}
-done = tt

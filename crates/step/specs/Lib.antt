@@ -4,5 +4,4 @@ pub mod Laying
 pub mod Limit
 pub mod Record
 pub mod Steps
-pub mod Told
 pub mod Writing

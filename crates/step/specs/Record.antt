@@ -3,13 +3,13 @@ use Rattle.std.specs.Prelude.{ℕ, ◌+◌, ◌/◌, ◌%◌, Bool, cond, List, 
 use Rattle.std.proofs.Common.{of_z}
 use Rattle.std.specs.Int.{w16}
 use Rattle.std.specs.List.{flat_map}
-use Rattle.sheet.specs.Counted.{held}
+use Rattle.sheet.specs.Counted.{coordinate_of}
 use Rattle.sheet.specs.declared.rows.Coords.{Coords}
 use Rattle.sheet.specs.declared.rows.Point.{Point}
 
 -- how far a coordinate goes, from its start to its end as they count
 abbrev pub move_of : ℤ → ℤ → ℤ
-move_of s e = held e -ℤ held s
+move_of s e = coordinate_of e -ℤ coordinate_of s
 
 abbrev pub moves_of : Point → Coords
 moves_of p = record { x = move_of p.start.x p.end.x; y = move_of p.start.y p.end.y; z = move_of p.start.z p.end.z }

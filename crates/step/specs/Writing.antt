@@ -1,5 +1,5 @@
--- Writing the record of a table: the checks of the call, and bytes put into the output.
-use Rattle.std.specs.Prelude.{ℕ, ◌+◌, List, [], ◌∷◌, ◌++◌, length, take, drop, nat_lt}
+-- Writing the record of a table: the checks of the call.
+use Rattle.std.specs.Prelude.{ℕ, List, [], ◌∷◌, length, take, nat_lt}
 use Rattle.sheet.specs.Checks.{Check}
 use Rattle.sheet.specs.declared.notices.Layer.TheVariants.{Writer}
 use Rattle.sheet.specs.declared.rows.Point.{Point}
@@ -11,7 +11,3 @@ abbrev pub write_checks : ℕ → List Point → ℕ → List Check
 write_checks n points places =
     record { fits = nat_lt (length points) n; tells = notice_at 13 Writer (place 0 0) }
     ∷ (record { fits = nat_lt places (length (record_of (take n points))); tells = notice_at 14 Writer (place 0 0) } ∷ [])
-
--- bs in place of what stands at i
-abbrev pub pasted : List ℕ → ℕ → List ℕ → List ℕ
-pasted out i bs = take i out ++ (bs ++ drop (i + length bs) out)

@@ -1,24 +1,27 @@
 // One field of a record: the move of one coordinate.
-ghost use Rattle.std.specs.Prelude.{◌≡◌, ◌+ℤ◌, if◌then◌else◌, Some, None};
-ghost use Rattle.sheet.specs.Checks.{answer};
+ghost use Rattle.std.specs.Prelude.{◌≡◌, ◌+ℤ◌, ◌<◌, IfOk, if◌then◌else◌, Some, None};
+ghost use Rattle.sheet.specs.Checks.{first_fit, fault_notice};
 ghost use Rattle.sheet.specs.Counted.{in_range};
 ghost use Rattle.step.specs.Faults.{notice_of_step};
-ghost use Rattle.step.specs.Laying.{field_checks, end_in, after_field};
-ghost use Rattle.step.specs.Told.{told_rest};
+ghost use Rattle.step.specs.Laying.{bit_stands, field_checks, end_in, after_field};
 
 use crate::faults::{At, StepFault};
 use sheet::COORDINATE_BOUND;
 
-/// The end of a coordinate that starts at `start`, and the rest of the record. It moves if its bit stands.
+/// The end of a coordinate that starts at `start`, and the rest of the record. It moves if the map has its bit.
 pub(crate) fn read_field(
     bytes: &[u8],
-    stands: bool,
+    map: u8,
+    bit: u8,
     start: i16,
     at: At,
 ) -> Result<(i16, &[u8]), StepFault>
-    ensures { told_rest notice_of_step result ≡ answer (field_checks at stands start bytes.now) (end_in stands start bytes.now, after_field stands bytes.now) }
+    requires { 0 < bit }
+    ensures fault { fault_notice notice_of_step result ≡ first_fit (field_checks at (bit_stands map bit) start bytes.now) }
+    ensures end { IfOk result (λ p. p.0 ≡ end_in (bit_stands map bit) start bytes.now) }
+    ensures rest { IfOk result (λ p. p.1.now ≡ after_field (bit_stands map bit) bytes.now) }
 {
-    if !stands {
+    if map / bit % 2 == 0 {
         return Ok((start, bytes));
     }
     let [low, high, rest @ ..] = bytes else {

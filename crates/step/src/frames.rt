@@ -1,8 +1,8 @@
 // Two frames of one sheet: how they differ, and the step between them.
 ghost use Rattle.std.specs.Prelude.{◌≡◌, ◌≤◌, length, take};
-ghost use Rattle.step.specs.Frames.{same_face, first_other, difference_of, toward_of, ending_at, tally_of, moving_in};
+ghost use Rattle.step.specs.Frames.{same_face, first_other, difference_of, toward, ending_at, moves, moving_in};
 
-use crate::writing::{map_of, moves};
+use crate::writing;
 use sheet::{Draft, Face, Point};
 
 /// How two frames differ: in their numbers of points, in their numbers of faces, or in a face.
@@ -10,7 +10,7 @@ use sheet::{Draft, Face, Point};
 pub enum Difference {
     Points(u16, u16),
     Faces(u16, u16),
-    Face(u32),
+    Face(usize),
 }
 
 /// The first difference between two frames, each a draft and its table of faces.
@@ -28,33 +28,27 @@ pub fn compare_frames(
     if start.faces() != end.faces() {
         return Some(Difference::Faces(start.faces(), end.faces()));
     }
-    first_other(
-        front(start_faces, start.faces()),
-        front(end_faces, start.faces()),
-    )
+    let faces = front(start_faces, start.faces());
+    let others = front(end_faces, start.faces());
+    first_other(faces, others).map(Difference::Face)
 }
 
 /// The first `count` rows of a table, or all where it has fewer.
-fn front(faces: &[Face], count: u16) -> &[Face]
-    ensures rows { result.now ≡ take count faces.now }
-    ensures few { length result.now ≤ 65535 }
+fn front<T>(rows: &[T], count: u16) -> &[T]
+    ensures { result.now ≡ take count rows.now }
 {
-    let count = faces.len().min(count as usize);
-    &faces[0..count]
+    let count = rows.len().min(count as usize);
+    &rows[..count]
 }
 
 /// The first row in which two tables differ.
-fn first_other(faces: &[Face], others: &[Face]) -> Option<Difference>
-    requires { length faces.now ≤ 65535 }
-    ensures { result ≡ first_other 0 faces.now others.now }
+fn first_other(faces: &[Face], others: &[Face]) -> Option<usize>
+    ensures { result ≡ first_other faces.now others.now }
 {
-    let count = faces.len().min(others.len());
-    for i in 0..count {
-        if !same_face(faces[i], others[i]) {
-            return Some(Difference::Face(i as u32));
-        }
-    }
-    None
+    faces
+        .iter()
+        .zip(others)
+        .position(|(face, other)| !same_face(*face, *other))
 }
 
 fn same_face(face: Face, other: Face) -> bool
@@ -75,30 +69,26 @@ pub fn end_at(points: &mut [Point], frame: &[Point])
 
 /// A point that ends where another starts.
 fn toward(point: Point, other: Point) -> Point
-    ensures { result ≡ toward_of point other }
+    ensures { result ≡ toward point other }
 {
-    let start = point.start;
-    let end = other.start;
-    Point { start, end }
+    Point {
+        start: point.start,
+        end: other.start,
+    }
 }
 
 /// How many of the draft's points move.
 pub fn moving(draft: &Draft, points: &[Point]) -> usize
     ensures { result ≡ moving_in (take draft.now.points points.now) }
 {
-    let count = points.len().min(draft.points() as usize);
-    let rows = &points[0..count];
-    let mut n = 0usize;
-    for row in rows {
-        n += tally(*row);
-    }
-    n
+    front(points, draft.points())
+        .iter()
+        .filter(|point| moves(**point))
+        .count()
 }
 
-/// One for a point that moves, and nothing for one that rests.
-fn tally(point: Point) -> usize
-    ensures value { result ≡ tally_of point }
-    ensures bound { result ≤ 1 }
+fn moves(point: Point) -> bool
+    ensures { result ≡ moves point }
 {
-    if map_of(moves(point)) == 0 { 0 } else { 1 }
+    writing::map_of(writing::moves(point)) != 0
 }

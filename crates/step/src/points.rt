@@ -1,9 +1,8 @@
 // What a record says of one point.
-ghost use Rattle.std.specs.Prelude.{◌≡◌, ◌<◌};
-ghost use Rattle.sheet.specs.Checks.{answer};
+ghost use Rattle.std.specs.Prelude.{◌≡◌, IfOk};
+ghost use Rattle.sheet.specs.Checks.{first_fit, fault_notice};
 ghost use Rattle.step.specs.Faults.{notice_of_step};
-ghost use Rattle.step.specs.Laying.{bit_stands, point_checks, end_of, after_point};
-ghost use Rattle.step.specs.Told.{told_rest};
+ghost use Rattle.step.specs.Laying.{point_checks, end_of, after_point, fields_checks, ends_of, after_fields};
 
 use crate::faults::{At, StepFault};
 use crate::fields::read_field;
@@ -15,7 +14,9 @@ pub(crate) fn read_point(
     start: Coords,
     point: u32,
 ) -> Result<(Coords, &[u8]), StepFault>
-    ensures { told_rest notice_of_step result ≡ answer (point_checks point start bytes.now) (end_of start bytes.now, after_point bytes.now) }
+    ensures fault { fault_notice notice_of_step result ≡ first_fit (point_checks point start bytes.now) }
+    ensures end { IfOk result (λ p. p.0 ≡ end_of start bytes.now) }
+    ensures rest { IfOk result (λ p. p.1.now ≡ after_point bytes.now) }
 {
     let [map, fields @ ..] = bytes else {
         return Err(StepFault::EndsEarly(At { point, field: 0 }));
@@ -23,16 +24,22 @@ pub(crate) fn read_point(
     if *map > 7 {
         return Err(StepFault::MapTooLarge(At { point, field: 0 }));
     }
-    let (x, fields) = read_field(fields, stands(*map, 1), start.x, At { point, field: 1 })?;
-    let (y, fields) = read_field(fields, stands(*map, 2), start.y, At { point, field: 2 })?;
-    let (z, rest) = read_field(fields, stands(*map, 4), start.z, At { point, field: 3 })?;
-    Ok((Coords { x, y, z }, rest))
+    read_fields(fields, *map, start, point)
 }
 
-/// Whether the bit of weight `bit` stands in a map.
-fn stands(map: u8, bit: u8) -> bool
-    requires { 0 < bit }
-    ensures { result ≡ bit_stands map bit }
+/// The end that the fields after a map give, and the rest of the record.
+fn read_fields(
+    bytes: &[u8],
+    map: u8,
+    start: Coords,
+    point: u32,
+) -> Result<(Coords, &[u8]), StepFault>
+    ensures fault { fault_notice notice_of_step result ≡ first_fit (fields_checks map point start bytes.now) }
+    ensures end { IfOk result (λ p. p.0 ≡ ends_of map start bytes.now) }
+    ensures rest { IfOk result (λ p. p.1.now ≡ after_fields map bytes.now) }
 {
-    map / bit % 2 != 0
+    let (x, bytes) = read_field(bytes, map, 1, start.x, At { point, field: 1 })?;
+    let (y, bytes) = read_field(bytes, map, 2, start.y, At { point, field: 2 })?;
+    let (z, rest) = read_field(bytes, map, 4, start.z, At { point, field: 3 })?;
+    Ok((Coords { x, y, z }, rest))
 }

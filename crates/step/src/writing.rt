@@ -1,16 +1,18 @@
 // Writes the record of a table into the caller's bytes.
-ghost use Rattle.std.specs.Prelude.{◌≡◌, ◌+◌, ◌<◌, ◌≤◌, true, length, take, ◌-ℤ◌, is_ok, IfOk, if◌then◌else◌};
-ghost use Rattle.sheet.specs.Checks.{answer, told};
+ghost use Rattle.std.specs.Prelude.{◌≡◌, ◌+◌, ◌++◌, ◌≤◌, true, length, take, ◌-ℤ◌, is_ok, IfOk, if◌then◌else◌};
+ghost use Rattle.arrayvec.specs.ArrayVec.{array_vec_len};
+ghost use Rattle.sheet.specs.Checks.{first_fit, fault_notice};
 ghost use Rattle.sheet.specs.Counted.{in_range};
-ghost use Rattle.sheet.specs.Sheet.{overlaid, point_limit};
+ghost use Rattle.sheet.specs.Sheet.{onto_front, point_limit};
 ghost use Rattle.step.specs.Faults.{notice_of_writer};
 ghost use Rattle.step.specs.Limit.{Longest, record_limit};
-ghost use Rattle.step.specs.Record.{move_of, moves_of, bit_of, map_byte, field_of, moves_record, point_record, record_of};
+ghost use Rattle.step.specs.Record.{move_of, moves_of, bit_of, map_byte, field_of, point_record, record_of};
 ghost use Rattle.step.specs.Steps.{Step, as_counted};
-ghost use Rattle.step.specs.Writing.{write_checks, pasted};
+ghost use Rattle.step.specs.Writing.{write_checks};
 
 use crate::faults::WriterFault;
-use sheet::{Coords, Draft, POINT_LIMIT, Point, held};
+use arrayvec::ArrayVec;
+use sheet::{Coords, Draft, POINT_LIMIT, Point, coordinate_of};
 
 /// The length of the longest record of a sheet.
 pub fn record_limit() -> usize
@@ -31,8 +33,9 @@ fn full_record() -> usize
 ///
 /// What is written is a record of these rows, by which their ends come back as they count (`back`).
 pub fn write(draft: &Draft, points: &[Point], out: &mut [u8]) -> Result<usize, WriterFault>
-    ensures answer { told notice_of_writer result ≡ answer (write_checks draft.now.points points.now (length out.old)) (length (record_of (take draft.now.points points.now))) }
-    ensures out { out.new ≡ (if is_ok result then overlaid (record_of (take draft.now.points points.now)) out.old else out.old) }
+    ensures fault { fault_notice notice_of_writer result ≡ first_fit (write_checks draft.now.points points.now (length out.old)) }
+    ensures len { IfOk result (λ n. n ≡ length (record_of (take draft.now.points points.now))) }
+    ensures out { out.new ≡ (if is_ok result then onto_front (record_of (take draft.now.points points.now)) out.old else out.old) }
     ensures back { IfOk result (λ n. Step (take draft.now.points points.now) (take n out.new) (as_counted (take draft.now.points points.now))) }
 {
     let count = draft.points() as usize;
@@ -53,91 +56,53 @@ fn record_len(rows: &[Point]) -> usize
 {
     let mut n = 0usize;
     for row in rows {
-        n += point_len(*row);
+        n += point_record(*row).len();
     }
     n
-}
-
-fn point_len(point: Point) -> usize
-    ensures value { result ≡ length (point_record point) }
-    ensures bound { result ≤ 7 }
-{
-    moves_len(moves(point))
-}
-
-fn moves_len(moves: Coords) -> usize
-    ensures value { result ≡ length (moves_record moves) }
-    ensures bound { result ≤ 7 }
-{
-    1 + field_len(moves.x) + field_len(moves.y) + field_len(moves.z)
-}
-
-fn field_len(by: i16) -> usize
-    ensures value { result ≡ length (field_of by) }
-    ensures bound { result ≤ 2 }
-{
-    if by == 0 { 0 } else { 2 }
-}
-
-/// How far a point goes on each axis.
-pub(crate) fn moves(point: Point) -> Coords
-    ensures { result ≡ moves_of point }
-{
-    let x = move_of(point.start.x, point.end.x);
-    let y = move_of(point.start.y, point.end.y);
-    let z = move_of(point.start.z, point.end.z);
-    Coords { x, y, z }
-}
-
-fn move_of(start: i16, end: i16) -> i16
-    ensures { result ≡ move_of start end }
-{
-    apart(held(start), held(end))
-}
-
-/// How far it is from one coordinate to another.
-fn apart(start: i16, end: i16) -> i16
-    requires start { in_range start ≡ true }
-    requires end { in_range end ≡ true }
-    ensures { result ≡ end -ℤ start }
-{
-    end - start
 }
 
 /// Puts the record of these rows into the front of `out`, and answers its length.
 fn put_rows(rows: &[Point], out: &mut [u8]) -> usize
     requires { length (record_of rows.now) ≤ length out.old }
     ensures len { result ≡ length (record_of rows.now) }
-    ensures out { out.new ≡ overlaid (record_of rows.now) out.old }
+    ensures out { out.new ≡ onto_front (record_of rows.now) out.old }
 {
     let mut at = 0usize;
     for row in rows {
-        at = put_point(out, at, *row);
+        let record = point_record(*row);
+        let bytes = record.as_slice();
+        let end = at + bytes.len();
+        out[at..end].copy_from_slice(bytes);
+        at = end;
     }
     at
 }
 
-/// Puts what the record says of a point into `out` at `at`, and answers where it ends.
-fn put_point(out: &mut [u8], at: usize, point: Point) -> usize
-    requires { at + length (point_record point) ≤ length out.old }
-    ensures next { result ≡ at + length (point_record point) }
-    ensures after { out.new ≡ pasted out.old at (point_record point) }
+/// What the record says of a point: its map byte, then a field for each axis on which it moves.
+fn point_record(point: Point) -> ArrayVec<u8, 7>
+    ensures { result.items ≡ point_record point }
 {
     let moves = moves(point);
-    put_moves(out, at, moves)
+    let mut record = ArrayVec::new();
+    record.push(map_of(moves));
+    push_field(&mut record, moves.x);
+    push_field(&mut record, moves.y);
+    push_field(&mut record, moves.z);
+    record
 }
 
-fn put_moves(out: &mut [u8], at: usize, moves: Coords) -> usize
-    requires { at + length (moves_record moves) ≤ length out.old }
-    ensures next { result ≡ at + length (moves_record moves) }
-    ensures after { out.new ≡ pasted out.old at (moves_record moves) }
+/// Adds the move of one axis, low byte first, if it moves.
+fn push_field(bytes: &mut ArrayVec<u8, 7>, by: i16)
+    requires { array_vec_len bytes.old + 2 ≤ 7 }
+    ensures items { bytes.new.items ≡ bytes.old.items ++ field_of by }
+    ensures len { array_vec_len bytes.new ≤ array_vec_len bytes.old + 2 }
 {
-    let Coords { x, y, z } = moves;
-    let map = [map_of(moves)];
-    let first = put(out, at, &map);
-    let second = put_field(out, first, x);
-    let third = put_field(out, second, y);
-    put_field(out, third, z)
+    if by == 0 {
+        return;
+    }
+    let [low, high] = by.to_le_bytes();
+    bytes.push(low);
+    bytes.push(high);
 }
 
 /// The map byte: a bit for each axis on which a point moves.
@@ -154,25 +119,27 @@ fn bit(by: i16, weight: u8) -> u8
     if by == 0 { 0 } else { weight }
 }
 
-fn put_field(out: &mut [u8], at: usize, by: i16) -> usize
-    requires { at + length (field_of by) ≤ length out.old }
-    ensures next { result ≡ at + length (field_of by) }
-    ensures after { out.new ≡ pasted out.old at (field_of by) }
+/// How far a point goes on each axis.
+pub(crate) fn moves(point: Point) -> Coords
+    ensures { result ≡ moves_of point }
 {
-    if by == 0 {
-        return at;
-    }
-    let bytes = by.to_le_bytes();
-    put(out, at, &bytes)
+    let x = move_of(point.start.x, point.end.x);
+    let y = move_of(point.start.y, point.end.y);
+    let z = move_of(point.start.z, point.end.z);
+    Coords { x, y, z }
 }
 
-/// Puts bytes into `out` at `at`, and answers where they end.
-fn put(out: &mut [u8], at: usize, bytes: &[u8]) -> usize
-    requires { at + length bytes.now ≤ length out.old }
-    ensures next { result ≡ at + length bytes.now }
-    ensures after { out.new ≡ pasted out.old at bytes.now }
+fn move_of(start: i16, end: i16) -> i16
+    ensures { result ≡ move_of start end }
 {
-    let end = at + bytes.len();
-    out[at..end].copy_from_slice(bytes);
-    end
+    apart(coordinate_of(start), coordinate_of(end))
+}
+
+/// How far it is from one coordinate to another.
+fn apart(start: i16, end: i16) -> i16
+    requires start { in_range start ≡ true }
+    requires end { in_range end ≡ true }
+    ensures { result ≡ end -ℤ start }
+{
+    end - start
 }

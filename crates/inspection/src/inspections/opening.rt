@@ -2,7 +2,7 @@
 ghost use Rattle.std.specs.Prelude.{◌≡◌, ◌<◌, is_ok, nat_lt, MatchResult, IfOk, if◌then◌else◌};
 ghost use Rattle.sheet.specs.Checks.{answer, told};
 ghost use Rattle.inspection.specs.Faults.{notice_of_opening};
-ghost use Rattle.inspection.specs.Lists.{held, emptied};
+ghost use Rattle.inspection.specs.Lists.{contents_of, emptied};
 ghost use Rattle.inspection.specs.States.{core_of, state_of, fresh};
 ghost use Rattle.inspection.specs.Runs.{depth_checks, Opened, DepthSet};
 ghost use Rattle.inspection.specs.declared.faults.OpeningFault.TheVariants.{TooDeep};
@@ -34,8 +34,8 @@ impl<F: Filter> Inspection<F> {
     ) -> Result<Inspection<F>, Refused<F>>
         ensures opened { MatchResult result (λ i. (core_of i ≡ fresh draft depth) × (i.filter ≡ filter)) (λ x. (6 < depth) × (x.fault ≡ TooDeep depth) × (x.draft ≡ draft) × (x.filter ≡ filter)) }
         ensures begins { IfOk result (λ i. Opened draft (state_of i vf.new ee.new)) }
-        ensures vf { held vf.new ≡ (if is_ok result then emptied (held vf.old) else held vf.old) }
-        ensures ee { held ee.new ≡ (if is_ok result then emptied (held ee.old) else held ee.old) }
+        ensures vf { contents_of vf.new ≡ (if is_ok result then emptied (contents_of vf.old) else contents_of vf.old) }
+        ensures ee { contents_of ee.new ≡ (if is_ok result then emptied (contents_of ee.old) else contents_of ee.old) }
     {
         if is_too_deep(depth) {
             let fault = OpeningFault::TooDeep(depth);

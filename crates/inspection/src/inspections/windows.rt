@@ -2,7 +2,7 @@
 ghost use Rattle.std.specs.Prelude.{◌≡◌};
 ghost use Rattle.motion.specs.Depths.{window_at};
 ghost use Rattle.inspection.specs.Sheets.{seen};
-ghost use Rattle.inspection.specs.Lists.{held};
+ghost use Rattle.inspection.specs.Lists.{contents_of};
 ghost use Rattle.inspection.specs.States.{core_of};
 ghost use Rattle.inspection.specs.Windows.{Windowed};
 
@@ -23,7 +23,7 @@ impl<F: Filter> Inspection<F> {
         list: &List<'_, E>,
         entry: u32,
     ) -> Result<Option<(u8, u8)>, WindowFault>
-        ensures { Windowed E.naming points.now faces.now (core_of self.now) (held list.now) entry (F.Filter.struck self.now.filter) result }
+        ensures { Windowed E.naming points.now faces.now (core_of self.now) (contents_of list.now) entry (F.Filter.struck self.now.filter) result }
     {
         let Some(rows) = Rows::of(&self.draft, points, faces) else {
             return Err(WindowFault::TableTooShort);

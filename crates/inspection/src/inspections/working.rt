@@ -1,7 +1,7 @@
 // A whole inspection from an opening on, by a list of requests.
 ghost use Rattle.std.specs.Prelude.{◌≡◌, ◌<◌, ◌≤◌, min, length, take, drop, MatchResult, IfOk};
 ghost use Rattle.inspection.specs.Sheets.{sheet_in};
-ghost use Rattle.inspection.specs.Lists.{held};
+ghost use Rattle.inspection.specs.Lists.{contents_of};
 ghost use Rattle.inspection.specs.States.{state_of, start};
 ghost use Rattle.inspection.specs.Runs.{Run};
 ghost use Rattle.inspection.specs.Claims.{Claim};
@@ -63,9 +63,9 @@ pub fn inspect<F: Filter>(
     ensures worked { let n = min (length requests.now) (length answers.old) in
         MatchResult result
         (λ w. (depth ≤ 6) × (w.answered ≡ n) × (w.inspection.filter ≡ filter) × (drop n answers.new ≡ drop n answers.old)
-        × Steps (F.Filter.struck filter) points.now faces.now (take n requests.now) (take n answers.new) (start draft depth (held vf.old) (held ee.old)) (state_of w.inspection vf.new ee.new))
+        × Steps (F.Filter.struck filter) points.now faces.now (take n requests.now) (take n answers.new) (start draft depth (contents_of vf.old) (contents_of ee.old)) (state_of w.inspection vf.new ee.new))
         (λ x. (6 < depth) × (x.fault ≡ TooDeep depth) × (x.draft ≡ draft) × (x.filter ≡ filter) × (answers.new ≡ answers.old)
-        × (held vf.new ≡ held vf.old) × (held ee.new ≡ held ee.old)) }
+        × (contents_of vf.new ≡ contents_of vf.old) × (contents_of ee.new ≡ contents_of ee.old)) }
     ensures run { let n = min (length requests.now) (length answers.old) in
         let accepted = history depth (take n requests.now) (take n answers.new) in
         IfOk result (λ w. Run (F.Filter.struck filter) draft (sheet_in draft points.now faces.now) accepted (state_of w.inspection vf.new ee.new)) }

@@ -1,4 +1,4 @@
-use Rattle.inspection.proofs.Held.{made, in_reach}
+use Rattle.inspection.proofs.Coordinates.{made, in_reach}
 use Rattle.inspection.proofs.sheets.moving.Goals as goal
 
 pub returns : goal.returns

@@ -1,7 +1,7 @@
 use Rattle.std.proofs.Common.{length, Ok, ap, ◌∙◌, arith}
 use Rattle.std.proofs.lemmas.Result.{err_from_is_err_and}
 use Rattle.std.proofs.lemmas.Bool.{lt-ltb, le-ltb}
-use Rattle.sheet.proofs.Answering.{good-value}
+use Rattle.report.proofs.Answering.{good-value}
 use Rattle.inspection.specs.States.{State, state_of}
 use Rattle.report.specs.Reports.{row_checks}
 use Rattle.report.proofs.Rows.{text, rows-fault, too-long, fits-in}

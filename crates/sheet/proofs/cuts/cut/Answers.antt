@@ -1,16 +1,19 @@
-use Rattle.std.proofs.Common.{◌+◌, ◌∙◌, arith, rules}
-use Rattle.std.proofs.lemmas.List.{take_all, drop_all, take_rest}
-use Rattle.sheet.proofs.Cutting.{before_at, after-at, drop-is-after}
+use Rattle.std.proofs.Common.{ℕ, ◌+◌, ◌==◌, length, take, drop, sym, ap, ◌∙◌, arith, rules, take_all}
+use Rattle.std.proofs.lemmas.List.Sums.{position_or_len_is}
+use Rattle.std.proofs.lemmas.List.{take_rest, drop_all}
 use Rattle.sheet.proofs.cuts.cut.Goals as goal
 
-pub returns-then-text-i : goal.returns-then-text-i
-returns-then-text-i c = record {
-  front = search (rules, before_at);
-  back = take_rest c.args.text.now (c.loop-i.i + 1) ∙ drop-is-after c.args.at c.args.text.now c.loop-i.i (omega arith) c.loop-i.invariant (λ _. c.if-text-i.true);
-}
+pub returns-in-Some : goal.returns-in-Some
+returns-in-Some c =
+    let text = c.args.text.now in
+    let found = position_or_len_is (λ (b : ℕ). b == c.args.at) text c.in-Some.i 0 (search rules) (search rules) (search rules) in
+    record { front = ap (λ n. take n text) (sym found); back = take_rest text _ ∙ ap (λ n. drop (n + 1) text) (sym found) }
 
-pub returns : goal.returns
-returns c = record {
-  front = search (rules, before_at, take_all);
-  back = search (rules, after-at, drop_all);
-}
+pub returns-in-None : goal.returns-in-None
+returns-in-None c =
+    let text = c.args.text.now in
+    let none = position_or_len_is (λ (b : ℕ). b == c.args.at) text (length text) 0 (omega arith) (search rules) (search rules) in
+    record {
+      front = sym (ap (λ n. take n text) none ∙ take_all (length text) text (omega arith));
+      back = sym (ap (λ n. drop (n + 1) text) none ∙ drop_all (length text + 1) text (omega arith));
+    }

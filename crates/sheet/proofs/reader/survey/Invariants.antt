@@ -1,13 +1,12 @@
-use Rattle.std.proofs.Common.{◌≡◌, ◌+◌, ◌≤◌, length}
-use Rattle.sheet.specs.Lines.{lines_of}
-use Rattle.sheet.specs.Passes.{none}
-use Rattle.sheet.proofs.Surveying.{surveyed}
+use Rattle.std.proofs.Common.{◌≡◌}
+use Rattle.sheet.specs.Checks.{first_fit}
+use Rattle.sheet.specs.Lines.{numbered}
+use Rattle.sheet.specs.Numbered.{lines_left}
+use Rattle.sheet.specs.Passes.{total}
+use Rattle.sheet.specs.Sheet.{none, lines_checks}
 use Rattle.sheet.proofs.reader.survey.Given as goal
 
-abbrev pub invariant-loop-rest : goal.invariant-loop-rest
-invariant-loop-rest l =
-    (surveyed l.room l.number l.above (lines_of l.rest) ≡ surveyed l.room 1 none (lines_of l.text))
-    × (l.number + length l.rest ≤ 65537)
-
-abbrev pub decreases-loop-rest : goal.decreases-loop-rest
-decreases-loop-rest l = length l.rest
+abbrev pub invariant-loop-line : goal.invariant-loop-line
+invariant-loop-line l =
+    (first_fit (lines_checks l.room l.above (lines_left l.line-iterator)) ≡ first_fit (lines_checks l.room none (numbered l.text)))
+    × (total l.above (lines_left l.line-iterator) ≡ total none (numbered l.text))

@@ -1,14 +1,24 @@
-use Rattle.std.proofs.Common.{arith}
-use Rattle.step.proofs.LayAnswers.{lay-answer, lay-table, lay-only, lay-back}
+use Rattle.std.proofs.Common.{◌≡◌, ◌-◌, ◌++◌, cond, take, is_ok, arith}
+use Rattle.std.proofs.lemmas.Grind.{common_steps}
+use borrow.Rule.Slice.PartMut.{post_of}
+use Rattle.sheet.specs.Checks.{first_fit, fault_notice}
+use Rattle.sheet.specs.Sheet.{onto_front}
+use Rattle.step.specs.Faults.{notice_of_step}
+use Rattle.step.specs.Laying.{with_ends, lay_checks}
+use Rattle.step.proofs.LayAnswers.{lay-only, lay-back}
 use Rattle.step.proofs.laying.lay.Goals as goal
 
 pub returns : goal.returns
 returns c =
-    let a = lay-answer c.args.draft.now.points c.points-count.result c.args.points.now c.args.bytes.now _ c.points-count.ensures (omega arith) c.lay_rows.ensures.answer in
-    let t = lay-table _ c.args.draft.now.points c.points-count.result c.args.points.now c.lay_rows.new.rows c.args.bytes.now c.points-count.ensures (omega arith) c.lay_rows.ensures.rows in
+    let n = c.args.draft.now.points in
+    let ps = c.args.points.now in
+    let bs = c.args.bytes.now in
+    let qs = c.lay_rows.new.rows ++ post_of 0 (c.points-count.result - 0) ps in
+    let a : fault_notice notice_of_step c.lay_rows.result ≡ first_fit (lay_checks n ps bs) = grind (arith, common_steps) in
+    let t : qs ≡ cond (is_ok c.lay_rows.result) (onto_front (with_ends (take n ps) bs) ps) ps = grind (arith, common_steps) in
     record {
-      answer = a;
+      fault = a;
       points = t;
-      only = lay-only c.lay_rows.result c.args.draft.now.points c.args.points.now _ c.args.bytes.now (λ k. (c.type_inv.bytes k).fits) a t;
-      back = λ qs h s. lay-back c.lay_rows.result c.args.draft.now.points c.args.points.now _ qs c.args.bytes.now a t h s;
+      only = lay-only c.lay_rows.result n ps qs bs (λ k. (c.type_inv.bytes k).fits) a t;
+      back = λ rows h s. lay-back c.lay_rows.result n ps qs rows bs a t h s;
     }

@@ -1,12 +1,14 @@
-use Rattle.std.proofs.Common.{length, arith}
-use Rattle.step.proofs.WriteAnswers.{write-answer, write-out, write-back}
+use Rattle.std.proofs.Common.{◌≡◌, ◌-◌, length, take, ap, ◌∙◌, arith}
+use Rattle.sheet.specs.Sheet.{onto_front}
+use Rattle.step.specs.Record.{record_of}
+use Rattle.step.proofs.WriteAnswers.{write_back}
 use Rattle.step.proofs.writing.write.Goals as goal
 
-pub returns : goal.returns
-returns c =
-    let o = write-out c.args.draft.now.points c.points-count.result c.args.points.now c.args.out.now _ c.points-count.ensures c.put_rows.ensures.out in
-    record {
-      answer = write-answer c.args.draft.now.points c.points-count.result _ c.record_len.result (length c.args.out.now) c.args.points.now c.points-count.ensures (omega arith) c.record_len.ensures (omega arith) c.put_rows.ensures.len;
-      out = o;
-      back = write-back c.args.draft.now.points c.points-count.result _ c.args.points.now c.args.out.now _ c.points-count.ensures c.put_rows.ensures.len o;
-    }
+-- the rows, as the code takes them
+pub returns-clause-back : goal.returns-clause-back
+returns-clause-back c =
+    let n = c.args.draft.now.points in
+    let ps = c.args.points.now in
+    let k : c.points-count.result - 0 ≡ n = omega (arith, c.points-count.ensures) in
+    let rows = ap (λ m. record_of (take m ps)) k in
+    write_back (take n ps) c.put_rows.result c.args.out.now _ (c.put_rows.ensures.len ∙ ap length rows) (c.put_rows.ensures.out ∙ ap (λ r. onto_front r c.args.out.now) rows)

@@ -5,7 +5,7 @@ use Rattle.inspection.specs.Sheets.{Sheet, sheet_in, seen}
 use Rattle.inspection.specs.Pairs.{vf_tests, ee_tests}
 use Rattle.inspection.specs.Tests.{vf_naming, ee_naming}
 use Rattle.inspection.specs.States.{State, state_of, tally_of}
-use Rattle.inspection.proofs.Offering.{no-room, accepted, room-is, tally-is, held-is}
+use Rattle.inspection.proofs.Offering.{no-room, accepted, room-is, tally-is, contents_of-is}
 use Rattle.inspection.proofs.inspections.Inspection.offer.Goals.{then-free-len-via-then-free-len, then-free-len-via-else-free-len+then-free-len-2}
 use Rattle.inspection.proofs.inspections.Inspection.offer.Goals as goal
 
@@ -50,5 +50,5 @@ returns-clause-step g c =
     c.count.ensures.core
     (tally-is vf_naming set d q sheet (Faces a.first a.second) here.1 _ vfs s.vf _ _ c.entries.ensures vf.listed (tally_of 0 s.core) _ vf.tally)
     (tally-is ee_naming set d q sheet (Faces a.first a.second) here.1 _ ees s.ee _ _ c.entries-2.ensures ee.listed (tally_of 1 s.core) _ ee.tally)
-    (held-is vf_naming set d q sheet (Faces a.first a.second) here.1 _ vfs s.vf _ _ c.entries.ensures vf.listed _ _ c.as_slice.ensures.value c.extend.ensures)
-    (held-is ee_naming set d q sheet (Faces a.first a.second) here.1 _ ees s.ee _ _ c.entries-2.ensures ee.listed _ _ c.as_slice-2.ensures.value c.extend-2.ensures)
+    (contents_of-is vf_naming set d q sheet (Faces a.first a.second) here.1 _ vfs s.vf _ _ c.entries.ensures vf.listed _ _ c.as_slice.ensures.value c.extend.ensures)
+    (contents_of-is ee_naming set d q sheet (Faces a.first a.second) here.1 _ ees s.ee _ _ c.entries-2.ensures ee.listed _ _ c.as_slice-2.ensures.value c.extend-2.ensures)

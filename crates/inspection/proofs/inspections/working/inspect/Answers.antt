@@ -1,5 +1,5 @@
 use Rattle.std.proofs.Common.{◌≡◌, ℕ, ◌<◌, ◌≤◌, length, take, min, ap, ◌∙◌, subst, arith}
-use Rattle.inspection.specs.Lists.{held}
+use Rattle.inspection.specs.Lists.{contents_of}
 use Rattle.inspection.specs.Sheets.{sheet_in}
 use Rattle.inspection.specs.Runs.{Run}
 use Rattle.inspection.specs.States.{Core, State, state_of, start}
@@ -19,7 +19,7 @@ loop-i-preserved g c =
     let there : l.i < length l.answers = omega arith in
     let u : State = state_of c.answer.new.self c.answer.new.vf c.answer.new.ee in
     record {
-      steps = worked-on (g.F.Filter.struck a.filter) a.points.now a.faces.now a.requests.now l.answers l.i (SetDepth 0) c.answer.result (start a.draft a.depth (held a.vf.now) (held a.ee.now)) (state_of l.inspection l.vf l.ee) u here there i.steps
+      steps = worked-on (g.F.Filter.struck a.filter) a.points.now a.faces.now a.requests.now l.answers l.i (SetDepth 0) c.answer.result (start a.draft a.depth (contents_of a.vf.now) (contents_of a.ee.now)) (state_of l.inspection l.vf l.ee) u here there i.steps
           (rw (← i.filter) e.step);
       filter = e.filter ∙ i.filter;
       rest = rest-more l.answers a.answers.now l.i c.answer.result i.rest;
@@ -34,7 +34,7 @@ returns-clause-run g c =
     let set = g.F.Filter.struck a.filter in
     let t : State = state_of l.inspection l.vf l.ee in
     subst (λ (j : ℕ). Run set a.draft (sheet_in a.draft a.points.now a.faces.now) (history a.depth (take j a.requests.now) (take j l.answers)) t) (n ∙ c.min-n.ensures)
-    (runs-on set a.points.now a.faces.now a.draft a.depth (held a.vf.now) (held a.ee.now) (take l.i a.requests.now) (take l.i l.answers) t k l.invariant.steps)
+    (runs-on set a.points.now a.faces.now a.draft a.depth (contents_of a.vf.now) (contents_of a.ee.now) (take l.i a.requests.now) (take l.i l.answers) t k l.invariant.steps)
 
 pub returns-clause-claim : goal.returns-clause-claim
 returns-clause-claim g c =
