@@ -1,4 +1,2 @@
-pub mod Answering
-pub mod Pasting
 pub mod Entries
-pub mod Rows
+pub mod Fronts

@@ -6,15 +6,35 @@ use Rattle.sheet.specs.declared.rows.Face.{Face}
 use Rattle.motion.specs.declared.shapes.Shape.{Shape}
 use Rattle.motion.specs.Depths.{window_at}
 use Rattle.inspection.specs.Sheets.{Sheet, sheet_in}
-use Rattle.inspection.specs.Tests.{vf_inside, vf_shape, ee_inside, ee_shape}
+use Rattle.inspection.specs.Tests.{Naming, vf_naming, ee_naming}
 use Rattle.inspection.specs.declared.classes.Tally.{Tally}
+use Rattle.inspection.specs.declared.inspections.Inspection.{Inspection}
+use Rattle.inspection.specs.declared.names.VfName.{VfName}
+use Rattle.inspection.specs.declared.names.EeName.{EeName}
 use Rattle.inspection.specs.Lists.{Contents}
-use Rattle.inspection.specs.States.{State, tally_of}
+use Rattle.inspection.specs.States.{Core, core_of, tally_of}
 use Rattle.inspection.specs.Offers.{short}
 use Rattle.report.specs.declared.faults.Listed.{Listed}
 use Rattle.report.specs.declared.faults.Listed.TheVariants.{Vf, Ee}
 use Rattle.report.specs.Faults.{notice_at, place_of}
 use Rattle.report.specs.Lines.{vf_line, ee_line, count_line}
+
+-- the inspection that is reported, by its filter's set, and the tables that its sheet lies in
+pub record View : Type 0 where
+  pub set : Shape → Bool
+  pub core : Core
+  pub points : List Point
+  pub faces : List Face
+
+abbrev pub view_of : {F : Type 0} → (F → Shape → Bool) → Inspection F → List Point → List Face → View
+view_of struck i ps fs = record { set = struck i.filter; core = core_of i; points = ps; faces = fs }
+
+abbrev pub sheet_of : View → Sheet
+sheet_of v = sheet_in v.core.draft v.points v.faces
+
+-- a table is shorter than its count
+abbrev pub is_short : View → Bool
+is_short v = short v.core.draft v.points v.faces
 
 -- the entries that have a number, which is below 2^32; an inspection lists no more than nine million
 unfoldable pub entry_limit : ℕ
@@ -23,39 +43,39 @@ entry_limit = 4294967296
 abbrev pub numbered : {E : Type 0} → Contents E → List E
 numbered h = take entry_limit h.entries
 
--- ---- the lines of a list's entries, with their windows by a set at depth d, and of its counts
-module _ {E : Type 0} (line : E → Option (ℕ × ℕ) → List ℕ) (shape : E → Shape) (set : Shape → Bool) (d : ℕ) where
-  abbrev pub entry_line : E → List ℕ
-  entry_line e = line e (window_at set d (shape e))
-
-  abbrev pub section : Listed → Contents E → Tally → List ℕ
-  section l h t = flat_map entry_line (numbered h) ++ count_line l t
-
-abbrev pub report_text : (Shape → Bool) → Sheet → State → List ℕ
-report_text set s st =
-    section vf_line (vf_shape s) set st.core.depth Vf st.vf (tally_of 0 st.core)
-    ++ section ee_line (ee_shape s) set st.core.depth Ee st.ee (tally_of 1 st.core)
-
--- ---- the checks
 abbrev pub refuses : Bool → ℕ → ℕ → ℕ → Check
 refuses b number first second = record { fits = b; tells = notice_at number first second }
 
--- of the entries of a list from i on
-abbrev pub entry_checks : {E : Type 0} → (E → Bool) → Listed → ℕ → List E → List Check
-entry_checks inside l i [] = []
-entry_checks inside l i (e ∷ es) = refuses (not (inside e)) 19 i (place_of l) ∷ entry_checks inside l (i + 1) es
+-- ---- of a list: what its entries name, and which list it is
+module _ {E : Type 0} (n : Naming E) (l : Listed) (v : View) where
+  -- the entries from number i on
+  abbrev pub checks_from : ℕ → List E → List Check
+  checks_from i [] = []
+  checks_from i (e ∷ es) = refuses (not (n.inside (sheet_of v) e)) 19 i (place_of l) ∷ checks_from (i + 1) es
 
-abbrev pub vf_checks : List Point → List Face → State → List Check
-vf_checks ps fs st = entry_checks (vf_inside (sheet_in st.core.draft ps fs)) Vf 0 (numbered st.vf)
+  abbrev pub entry_checks : Contents E → List Check
+  entry_checks h = checks_from 0 (numbered h)
 
-abbrev pub ee_checks : List Point → List Face → State → List Check
-ee_checks ps fs st = entry_checks (ee_inside (sheet_in st.core.draft ps fs)) Ee 0 (numbered st.ee)
+  module _ (line : E → Option (ℕ × ℕ) → List ℕ) where
+    -- an entry, with its window at the depth now set
+    abbrev pub entry_line : E → List ℕ
+    entry_line e = line e (window_at v.set v.core.depth (n.shape (sheet_of v) e))
 
--- all but the last
-abbrev pub row_checks : List Point → List Face → State → List Check
-row_checks ps fs st = refuses (short st.core.draft ps fs) 16 0 0 ∷ (vf_checks ps fs st ++ ee_checks ps fs st)
+    -- its entries, and its counts
+    abbrev pub section : Contents E → Tally → List ℕ
+    section h t = flat_map entry_line (numbered h) ++ count_line l t
 
--- all checks, for an output of so many bytes
-abbrev pub report_checks : (Shape → Bool) → List Point → List Face → State → ℕ → List Check
-report_checks set ps fs st places =
-    row_checks ps fs st ++ (refuses (nat_lt places (length (report_text set (sheet_in st.core.draft ps fs) st))) 23 0 0 ∷ [])
+-- ---- of an inspection, with its two lists
+module _ (v : View) (vf : Contents VfName) (ee : Contents EeName) where
+  abbrev pub report_text : List ℕ
+  report_text =
+      section vf_naming Vf v vf_line vf (tally_of 0 v.core)
+      ++ section ee_naming Ee v ee_line ee (tally_of 1 v.core)
+
+  -- whatever the output
+  abbrev pub len_checks : List Check
+  len_checks = refuses (is_short v) 16 0 0 ∷ (entry_checks vf_naming Vf v vf ++ entry_checks ee_naming Ee v ee)
+
+  -- for an output of so many bytes
+  abbrev pub report_checks : ℕ → List Check
+  report_checks places = len_checks ++ (refuses (nat_lt places (length report_text)) 23 0 0 ∷ [])

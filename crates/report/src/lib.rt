@@ -7,4 +7,4 @@ mod reporting;
 mod sections;
 
 pub use faults::{Listed, ReportFault};
-pub use reporting::report;
+pub use reporting::{report, report_len};

@@ -15,13 +15,13 @@ pub(crate) type Line = ArrayString<96>;
 /// An entry that has a line in the report.
 pub(crate) trait HasLine: TestName {
     // which list it stands on
-    ghost listed: { Listed };
+    ghost kind: { Listed };
 
     // its line, with its window
     ghost line: { Self → Option (ℕ × ℕ) → List ℕ };
 
-    fn listed() -> Listed
-        ensures { result ≡ listed };
+    fn kind() -> Listed
+        ensures { result ≡ kind };
 
     fn line(self, window: Option<(u8, u8)>) -> Line
         ensures { result.bytes ≡ line self window };
@@ -30,11 +30,11 @@ pub(crate) trait HasLine: TestName {
 impl HasLine for VfName {
     ghost use Rattle.report.specs.declared.faults.Listed.TheVariants.{Vf};
 
-    ghost listed = { Vf };
+    ghost kind = { Vf };
 
     ghost line = { vf_line };
 
-    fn listed() -> Listed {
+    fn kind() -> Listed {
         Listed::Vf
     }
 
@@ -51,11 +51,11 @@ impl HasLine for VfName {
 impl HasLine for EeName {
     ghost use Rattle.report.specs.declared.faults.Listed.TheVariants.{Ee};
 
-    ghost listed = { Ee };
+    ghost kind = { Ee };
 
     ghost line = { ee_line };
 
-    fn listed() -> Listed {
+    fn kind() -> Listed {
         Listed::Ee
     }
 

@@ -1,12 +1,11 @@
-// The lines of a list and of its counts: how long they are, and how they come into the output.
-ghost use Rattle.std.specs.Prelude.{◌≡◌, ◌+◌, ◌*◌, ◌≤◌, false, length, None, slice_get, option_map, IfOk};
-ghost use Rattle.sheet.specs.Checks.{first_fit, answer, told};
-ghost use Rattle.inspection.specs.Sheets.{sheet_in};
+// The lines of a list and of its counts.
+ghost use Rattle.std.specs.Prelude.{◌≡◌, ◌+◌, ◌*◌, ◌≤◌, false, [], ◌∷◌, length, Some, slice_get, IfOk, OnOk};
+ghost use Rattle.sheet.specs.Checks.{first_fit, fault_notice};
+ghost use Rattle.sheet.specs.Sheet.{onto_front};
 ghost use Rattle.inspection.specs.Lists.{contents_of, entries};
-ghost use Rattle.inspection.specs.Offers.{short};
 ghost use Rattle.report.specs.Faults.{notice_of_report};
-ghost use Rattle.report.specs.Reports.{numbered, entry_line, section, entry_checks};
-ghost use Rattle.report.specs.Writing.{pasted, line_or_none};
+ghost use Rattle.report.specs.Reports.{view_of, is_short, numbered, entry_line, section, checks_from, entry_checks};
+ghost use Rattle.report.specs.Writing.{written_at};
 
 use crate::faults::ReportFault;
 use crate::lines::{HasLine, Line, count_line};
@@ -17,58 +16,7 @@ use sheet::{Face, Point};
 // the entries have numbers of 32 bits
 const ENTRY_LIMIT: usize = 4_294_967_296;
 
-/// How many entries of the list have a number.
-fn count<E: Entry>(list: &List<'_, E>) -> usize
-    ensures len { result ≡ length (numbered (contents_of list.now)) }
-    ensures limit { result ≤ 4294967296 }
-{
-    list.len().min(ENTRY_LIMIT)
-}
-
-/// The line of an entry; none where a number of it is not of the sheet.
-fn line_at<F: Filter, E: HasLine>(
-    inspection: &Inspection<F>,
-    points: &[Point],
-    faces: &[Face],
-    list: &List<'_, E>,
-    entry: u32,
-) -> Option<Line>
-    requires { short inspection.now.draft points.now faces.now ≡ false }
-    ensures { let s = sheet_in inspection.now.draft points.now faces.now in
-        option_map (λ l. l.bytes) result ≡ line_or_none ((E.TestName.naming).inside s) (entry_line E.HasLine.line ((E.TestName.naming).shape s) (F.Filter.struck inspection.now.filter) inspection.now.depth) (slice_get (entries list.now) entry) }
-{
-    let e = list.get(entry as usize)?;
-    match inspection.window(points, faces, list, entry) {
-        Ok(window) => Some(e.line(window)),
-        Err(_) => None,
-    }
-}
-
-/// How many bytes the lines of a list and of its counts have, where no entry strays.
-pub(crate) fn section_len<F: Filter, E: HasLine>(
-    inspection: &Inspection<F>,
-    points: &[Point],
-    faces: &[Face],
-    list: &List<'_, E>,
-    tally: Tally,
-) -> Result<usize, ReportFault>
-    requires { short inspection.now.draft points.now faces.now ≡ false }
-    ensures answer { let s = sheet_in inspection.now.draft points.now faces.now in
-        told notice_of_report result ≡ answer (entry_checks ((E.TestName.naming).inside s) E.HasLine.listed 0 (numbered (contents_of list.now)))
-        (length (section E.HasLine.line ((E.TestName.naming).shape s) (F.Filter.struck inspection.now.filter) inspection.now.depth E.HasLine.listed (contents_of list.now) tally)) }
-    ensures limit { IfOk result (λ n. n ≤ 96 * 4294967297) }
-{
-    let mut len = count_line(E::listed(), tally).len();
-    for i in 0..count(list) {
-        let Some(line) = line_at(inspection, points, faces, list, i as u32) else {
-            return Err(ReportFault::NotOfTheSheet(i as u32, E::listed()));
-        };
-        len += line.len();
-    }
-    Ok(len)
-}
-
-/// Puts the lines of a list and of its counts into `out` at `at`, and answers where they end.
+/// Puts the lines of a list and of its counts into the front of `out`, if it has room for all of them, and answers how long they are.
 pub(crate) fn put_section<F: Filter, E: HasLine>(
     inspection: &Inspection<F>,
     points: &[Point],
@@ -76,35 +24,69 @@ pub(crate) fn put_section<F: Filter, E: HasLine>(
     list: &List<'_, E>,
     tally: Tally,
     out: &mut [u8],
-    at: usize,
-) -> usize
-    requires rows { short inspection.now.draft points.now faces.now ≡ false }
-    requires inside { first_fit (entry_checks ((E.TestName.naming).inside (sheet_in inspection.now.draft points.now faces.now)) E.HasLine.listed 0 (numbered (contents_of list.now))) ≡ None }
-    requires room { let s = sheet_in inspection.now.draft points.now faces.now in
-        at + length (section E.HasLine.line ((E.TestName.naming).shape s) (F.Filter.struck inspection.now.filter) inspection.now.depth E.HasLine.listed (contents_of list.now) tally) ≤ length out.old }
-    ensures end { let s = sheet_in inspection.now.draft points.now faces.now in
-        result ≡ at + length (section E.HasLine.line ((E.TestName.naming).shape s) (F.Filter.struck inspection.now.filter) inspection.now.depth E.HasLine.listed (contents_of list.now) tally) }
-    ensures out { let s = sheet_in inspection.now.draft points.now faces.now in
-        out.new ≡ pasted out.old at (section E.HasLine.line ((E.TestName.naming).shape s) (F.Filter.struck inspection.now.filter) inspection.now.depth E.HasLine.listed (contents_of list.now) tally) }
+) -> Result<usize, ReportFault>
+    requires { is_short (view_of F.Filter.struck inspection.now points.now faces.now) ≡ false }
+    ensures fault { let v = view_of F.Filter.struck inspection.now points.now faces.now in
+        let checks = entry_checks E.TestName.naming E.HasLine.kind v (contents_of list.now) in
+        fault_notice notice_of_report result ≡ first_fit checks }
+    ensures len { let v = view_of F.Filter.struck inspection.now points.now faces.now in
+        let text = section E.TestName.naming E.HasLine.kind v E.HasLine.line (contents_of list.now) tally in
+        IfOk result (λ n. n ≡ length text) }
+    ensures limit { IfOk result (λ n. n ≤ 96 * 4294967297) }
+    ensures out { let v = view_of F.Filter.struck inspection.now points.now faces.now in
+        let text = section E.TestName.naming E.HasLine.kind v E.HasLine.line (contents_of list.now) tally in
+        OnOk result (length text ≤ length out.old → out.new ≡ onto_front text out.old) }
 {
-    let mut end = at;
-    for i in 0..count(list) {
-        let Some(line) = line_at(inspection, points, faces, list, i as u32) else {
-            unreachable!()
-        };
-        end = put_line(out, end, &line);
+    let mut len = 0usize;
+    for (i, e) in numbered(list).iter().enumerate() {
+        let line = line_of(inspection, points, faces, list, i as u32, *e)?;
+        len = put_line(out, len, &line);
     }
-    put_line(out, end, &count_line(E::listed(), tally))
+    Ok(put_line(out, len, &count_line(E::kind(), tally)))
 }
 
-/// Puts a line into `out` at `at`, and answers where it ends.
+/// The entries that have a number.
+fn numbered<'a, E: Entry>(list: &'a List<'_, E>) -> &'a [E]
+    ensures front { result.now ≡ numbered (contents_of list.now) }
+    ensures limit { length result.now ≤ 4294967296 }
+{
+    let entries = list.entries();
+    &entries[..ENTRY_LIMIT.min(entries.len())]
+}
+
+/// The line of the entry with this number.
+fn line_of<F: Filter, E: HasLine>(
+    inspection: &Inspection<F>,
+    points: &[Point],
+    faces: &[Face],
+    list: &List<'_, E>,
+    i: u32,
+    e: E,
+) -> Result<Line, ReportFault>
+    requires rows { is_short (view_of F.Filter.struck inspection.now points.now faces.now) ≡ false }
+    requires entry { slice_get (entries list.now) i ≡ Some e }
+    ensures fault { let v = view_of F.Filter.struck inspection.now points.now faces.now in
+        fault_notice notice_of_report result ≡ first_fit (checks_from E.TestName.naming E.HasLine.kind v i (e ∷ [])) }
+    ensures line { let v = view_of F.Filter.struck inspection.now points.now faces.now in
+        IfOk result (λ l. l.bytes ≡ entry_line E.TestName.naming E.HasLine.kind v E.HasLine.line e) }
+{
+    match inspection.window(points, faces, list, i) {
+        Ok(window) => Ok(e.line(window)),
+        Err(_) => Err(ReportFault::NotOfTheSheet(i, E::kind())),
+    }
+}
+
+/// Puts a line into `out` at `at`, if it has room for it, and answers where it ends.
 fn put_line(out: &mut [u8], at: usize, line: &Line) -> usize
-    requires { at + length line.now.bytes ≤ length out.old }
+    requires { at ≤ 96 * 4294967296 }
     ensures end { result ≡ at + length line.now.bytes }
-    ensures out { out.new ≡ pasted out.old at line.now.bytes }
+    ensures limit { result ≤ at + 96 }
+    ensures out { result ≤ length out.old → out.new ≡ written_at at line.now.bytes out.old }
 {
     let text = line.as_str().as_bytes();
     let end = at + text.len();
-    out[at..end].copy_from_slice(text);
+    if end <= out.len() {
+        out[at..end].copy_from_slice(text);
+    }
     end
 }
