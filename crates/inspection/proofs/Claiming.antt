@@ -10,14 +10,14 @@ use Rattle.inspection.specs.Lists.{At}
 use Rattle.inspection.specs.States.{State}
 use Rattle.inspection.specs.Runs.{Accepted, Run}
 use Rattle.inspection.specs.Claims.{Claim}
-use Rattle.inspection.proofs.NamedVf.{vf_named}
-use Rattle.inspection.proofs.NamedEe.{ee_named}
+use Rattle.inspection.proofs.VfNames.{vf_laws}
+use Rattle.inspection.proofs.EeNames.{ee_laws}
 use Rattle.inspection.proofs.Gathering.{Upto}
-use Rattle.inspection.proofs.Moments.{Kind, Moment, moment}
+use Rattle.inspection.proofs.Moments.{KindSoFar, Moment, moment}
 use Rattle.inspection.proofs.Keeping.{kept, covers}
 
 -- at the end of a run nothing comes later
-ended : {E : Type 0} {n : Naming E} {times : ℕ → ℕ} {set : Shape → Bool} {sheet : Sheet} {h : List Accepted} {es : List E} {t : Tally} → Kind n times set sheet h es t → Upto n set sheet h (length h) 0 es
+ended : {E : Type 0} {n : Naming E} {times : ℕ → ℕ} {set : Shape → Bool} {sheet : Sheet} {h : List Accepted} {es : List E} {t : Tally} → KindSoFar n times set sheet h es t → Upto n set sheet h (length h) 0 es
 ended {n} {set} {sheet} {h} {es} k = subst (λ (x : List Accepted). Upto n set sheet x (length h) 0 es) (append-nil h) (k.gathered [])
 
 pub claim : {set : Shape → Bool} → Lawful set → (d : Draft) (sheet : Sheet) (h : List Accepted) (s : State) → Run set d sheet h s → Claim set d sheet h s
@@ -27,12 +27,12 @@ claim {set} law d sheet h s run =
     let near = λ (i : ℕ) (o : Accepted) (a : At h i o). (m.each i o a).near in
     record {
       draft = m.draft;
-      vf = kept vf_naming set law sheet (vf_named sheet) h low near s.vf.entries (ended m.vf);
-      ee = kept ee_naming set law sheet (ee_named sheet) h low near s.ee.entries (ended m.ee);
+      vf = kept vf_naming set law sheet (vf_laws sheet) h low near s.vf.entries (ended m.vf);
+      ee = kept ee_naming set law sheet (ee_laws sheet) h low near s.ee.entries (ended m.ee);
       again = λ set' same d' other t run' answered.
           let m' : Moment set' d' sheet other t = moment set' d' sheet run' in (
-            covers vf_naming set law sheet (vf_named sheet) h low near s.vf.entries (ended m.vf) set' same other (λ i o a. (m'.each i o a).shallow) t.vf.entries (ended m'.vf) answered,
-            covers ee_naming set law sheet (ee_named sheet) h low near s.ee.entries (ended m.ee) set' same other (λ i o a. (m'.each i o a).shallow) t.ee.entries (ended m'.ee) answered,
+            covers vf_naming set law sheet (vf_laws sheet) h low near s.vf.entries (ended m.vf) set' same other (λ i o a. (m'.each i o a).shallow) t.vf.entries (ended m'.vf) answered,
+            covers ee_naming set law sheet (ee_laws sheet) h low near s.ee.entries (ended m.ee) set' same other (λ i o a. (m'.each i o a).shallow) t.ee.entries (ended m'.ee) answered,
           );
       of_sheet = λ i o a. (m.each i o a).of_sheet;
       offers = m.offers;

@@ -7,22 +7,21 @@ use Rattle.inspection.specs.declared.classes.Class.TheVariants.{Kept, Struck, Sh
 use Rattle.inspection.specs.Sheets.{Sheet}
 use Rattle.inspection.specs.Tests.{Naming}
 use Rattle.inspection.specs.Lists.{At, has}
-use Rattle.inspection.specs.Classes.{Judge, class_of, added, listed_after}
-use Rattle.inspection.specs.Offers.{judge}
+use Rattle.inspection.specs.Classes.{Rules, rules_at, class_of, entries_with, entries_after}
 use Rattle.inspection.specs.Runs.{Accepted}
-use Rattle.inspection.specs.Claims.{Passed, Before}
+use Rattle.inspection.specs.Claims.{PassedAt, Before}
 use Rattle.inspection.proofs.Standing.{only, below, in_front, behind, spot, has-at, at-has}
-use Rattle.inspection.proofs.Namings.{Named}
+use Rattle.inspection.proofs.NamingLaws.{NamingLaws}
 use Rattle.inspection.proofs.Befores.{never, more, here, last, last_offer, next_offer, apart}
 
 module _ {E : Type 0} (n : Naming E) (set : Shape → Bool) (sheet : Sheet) (h : List Accepted) where
   -- as far as the tests before place k of the offer i
   pub record Upto (i k : ℕ) (es : List E) : Type 0 where
-    pub listed : (e : E) → has n.same e es ≡ true → (p : ℕ) × ((q : ℕ) × (Passed n set sheet h e p q × Before p q i k))
-    pub passed : (e : E) (p q : ℕ) → Passed n set sheet h e p q → Before p q i k → has n.same e es ≡ true
+    pub listed : (e : E) → has n.same e es ≡ true → (p : ℕ) × ((q : ℕ) × (PassedAt n set sheet h e p q × Before p q i k))
+    pub passed : (e : E) (p q : ℕ) → PassedAt n set sheet h e p q → Before p q i k → has n.same e es ≡ true
     pub once : (a b : ℕ) (x y : E) → At es a x → At es b y → n.same x y ≡ true → a ≡ b
     pub order : (a b : ℕ) (x y : E) → At es a x → At es b y → a < b
-        → (p : ℕ) × ((q : ℕ) × (Passed n set sheet h x p q × ((p' q' : ℕ) → Passed n set sheet h y p' q' → Before p q p' q')))
+        → (p : ℕ) × ((q : ℕ) × (PassedAt n set sheet h x p q × ((p' q' : ℕ) → PassedAt n set sheet h y p' q' → Before p q p' q')))
 
   pub nothing : Upto 0 0 []
   nothing =
@@ -34,28 +33,28 @@ module _ {E : Type 0} (n : Naming E) (set : Shape → Bool) (sheet : Sheet) (h :
       }
 
   -- a test that adds nothing
-  pub skip : (i k : ℕ) (es : List E) → Upto i k es → ((e : E) → Passed n set sheet h e i k → has n.same e es ≡ true) → Upto i (suc k) es
+  pub skip : (i k : ℕ) (es : List E) → Upto i k es → ((e : E) → PassedAt n set sheet h e i k → has n.same e es ≡ true) → Upto i (suc k) es
   skip i k es u f =
       record {
         listed = λ e t. let (p, (q, (w, b))) = u.listed e t in (p, (q, (w, more p q i k b)));
-        passed = λ e p q w b. ⊎_elim (u.passed e p q w) (λ (c, d). f e (subst₂ (λ (x y : ℕ). Passed n set sheet h e x y) c d w)) (last p q i k b);
+        passed = λ e p q w b. ⊎_elim (u.passed e p q w) (λ (c, d). f e (subst₂ (λ (x y : ℕ). PassedAt n set sheet h e x y) c d w)) (last p q i k b);
         once = u.once;
         order = u.order;
       }
 
   -- after the last test of an offer
-  pub turn : (i k : ℕ) (es : List E) → Upto i k es → ((e : E) (q : ℕ) → Passed n set sheet h e i q → q < k) → Upto (suc i) 0 es
+  pub turn : (i k : ℕ) (es : List E) → Upto i k es → ((e : E) (q : ℕ) → PassedAt n set sheet h e i q → q < k) → Upto (suc i) 0 es
   turn i k es u f =
       record {
         listed = λ e t. let (p, (q, (w, b))) = u.listed e t in (p, (q, (w, next_offer p q i k b)));
-        passed = λ e p q w b. u.passed e p q w (⊎_elim (λ l. inl l) (λ c. inr (c, f e q (subst (λ (x : ℕ). Passed n set sheet h e x q) c w))) (last_offer p q i b));
+        passed = λ e p q w b. u.passed e p q w (⊎_elim (λ l. inl l) (λ c. inr (c, f e q (subst (λ (x : ℕ). PassedAt n set sheet h e x q) c w))) (last_offer p q i b));
         once = u.once;
         order = u.order;
       }
 
-  module _ (named : Named n sheet) where
+  module _ (named : NamingLaws n sheet) where
     -- a test that is added at the end
-    pub keep : (i k : ℕ) (es : List E) (x : E) → Upto i k es → has n.same x es ≡ false → Passed n set sheet h x i k → ((e : E) → Passed n set sheet h e i k → e ≡ x)
+    pub keep : (i k : ℕ) (es : List E) (x : E) → Upto i k es → has n.same x es ≡ false → PassedAt n set sheet h x i k → ((e : E) → PassedAt n set sheet h e i k → e ≡ x)
         → Upto i (suc k) (es ++ (x ∷ []))
     keep i k es x u new w only_one = record { listed = all-listed; passed = all-passed; once = all-once; order = all-order }
       where
@@ -65,26 +64,26 @@ module _ {E : Type 0} (n : Naming E) (set : Shape → Bool) (sheet : Sheet) (h :
         has-end : has n.same x (es ++ (x ∷ [])) ≡ true
         has-end = at-has n.same named.itself (es ++ (x ∷ [])) (length es) x end
 
-        not-before : (p q : ℕ) → Passed n set sheet h x p q → Before p q i k → ⊥
+        not-before : (p q : ℕ) → PassedAt n set sheet h x p q → Before p q i k → ⊥
         not-before p q v b = both_ways (has n.same x es) new (u.passed x p q v b)
 
         has-old : (a : ℕ) (e : E) → At es a e → has n.same e es ≡ true
         has-old a e s = at-has n.same named.itself es a e s
 
-        all-listed : (e : E) → has n.same e (es ++ (x ∷ [])) ≡ true → (p : ℕ) × ((q : ℕ) × (Passed n set sheet h e p q × Before p q i (suc k)))
+        all-listed : (e : E) → has n.same e (es ++ (x ∷ [])) ≡ true → (p : ℕ) × ((q : ℕ) × (PassedAt n set sheet h e p q × Before p q i (suc k)))
         all-listed e t =
             let (a, s) = has-at n.same named.equal (es ++ (x ∷ [])) e t in
             ⊎_elim
             (λ r. let (p, (q, (v, b))) = u.listed e (has-old a e r) in (p, (q, (v, more p q i k b))))
-            (λ (c, r). (i, (k, (subst (λ (y : E). Passed n set sheet h y i k) r w, here i k))))
+            (λ (c, r). (i, (k, (subst (λ (y : E). PassedAt n set sheet h y i k) r w, here i k))))
             (spot es x a e s)
 
-        all-passed : (e : E) (p q : ℕ) → Passed n set sheet h e p q → Before p q i (suc k) → has n.same e (es ++ (x ∷ [])) ≡ true
+        all-passed : (e : E) (p q : ℕ) → PassedAt n set sheet h e p q → Before p q i (suc k) → has n.same e (es ++ (x ∷ [])) ≡ true
         all-passed e p q v b =
             ⊎_elim
             (λ c. let (a, s) = has-at n.same named.equal es e (u.passed e p q v c) in at-has n.same named.itself (es ++ (x ∷ [])) a e (in_front es (x ∷ []) a e s))
             (λ (c, d).
-            subst (λ (y : E). has n.same y (es ++ (x ∷ [])) ≡ true) (sym (only_one e (subst₂ (λ (y z : ℕ). Passed n set sheet h e y z) c d v))) has-end)
+            subst (λ (y : E). has n.same y (es ++ (x ∷ [])) ≡ true) (sym (only_one e (subst₂ (λ (y z : ℕ). PassedAt n set sheet h e y z) c d v))) has-end)
             (last p q i k b)
 
         old-new : (a : ℕ) (y : E) → At es a y → x ≡ y → ⊥
@@ -100,43 +99,43 @@ module _ {E : Type 0} (n : Naming E) (set : Shape → Bool) (sheet : Sheet) (h :
             go (inr (c, r)) (inr (d, s)) = c ∙ sym d
 
         all-order : (a b : ℕ) (y z : E) → At (es ++ (x ∷ [])) a y → At (es ++ (x ∷ [])) b z → a < b
-            → (p : ℕ) × ((q : ℕ) × (Passed n set sheet h y p q × ((p' q' : ℕ) → Passed n set sheet h z p' q' → Before p q p' q')))
+            → (p : ℕ) × ((q : ℕ) × (PassedAt n set sheet h y p q × ((p' q' : ℕ) → PassedAt n set sheet h z p' q' → Before p q p' q')))
         all-order a b y z s t l = go (spot es x a y s) (spot es x b z t)
           where
             go : At es a y ⊎ ((a ≡ length es) × (x ≡ y)) → At es b z ⊎ ((b ≡ length es) × (x ≡ z))
-                → (p : ℕ) × ((q : ℕ) × (Passed n set sheet h y p q × ((p' q' : ℕ) → Passed n set sheet h z p' q' → Before p q p' q')))
+                → (p : ℕ) × ((q : ℕ) × (PassedAt n set sheet h y p q × ((p' q' : ℕ) → PassedAt n set sheet h z p' q' → Before p q p' q')))
             go (inl s) (inl t) = u.order a b y z s t l
             go (inl s) (inr (c, r)) =
                 let (p, (q, (v, g))) = u.listed y (has-old a y s) in
-                (p, (q, (v, λ p' q' f. apart p q p' q' i k g (λ d. not-before p' q' (subst (λ (e : E). Passed n set sheet h e p' q') (sym r) f) d))))
+                (p, (q, (v, λ p' q' f. apart p q p' q' i k g (λ d. not-before p' q' (subst (λ (e : E). PassedAt n set sheet h e p' q') (sym r) f) d))))
             go (inr (c, r)) (inl t) = let m = below es b z t in absurd (omega arith)
             go (inr (c, r)) (inr (d, s)) = absurd (omega arith)
 
-  module _ (named : Named n sheet) (i : ℕ) (o : Accepted) (there : At h i o) where
-    abbrev by : Judge E
-    by = judge n set o.depth sheet o.what
+  module _ (named : NamingLaws n sheet) (i : ℕ) (o : Accepted) (there : At h i o) where
+    abbrev by : Rules E
+    by = rules_at n set o.depth sheet
 
     abbrev ts : List E
     ts = n.tests sheet o.what
 
     -- one test, by its class
-    one : (k : ℕ) (es : List E) (x : E) → At (n.tests sheet o.what) k x → Upto i k es → Upto i (suc k) (added (class_of by es x) es x)
+    one : (k : ℕ) (es : List E) (x : E) → At (n.tests sheet o.what) k x → Upto i k es → Upto i (suc k) (entries_with (class_of by es x) es x)
     one k es x p u = go (n.shared sheet x) (struck_at set o.depth (n.shape sheet x)) (has n.same x es) refl refl refl
       where
-        it_is : (e : E) (w : Passed n set sheet h e i k) → w.test ≡ x
+        it_is : (e : E) (w : PassedAt n set sheet h e i k) → w.test ≡ x
         it_is e w =
             only (n.tests sheet o.what) k w.test x
             (subst (λ (a : Accepted). At (n.tests sheet a.what) k w.test) (only h i w.offer o w.accepted there) w.holds) p
 
-        same_one : (e : E) → Passed n set sheet h e i k → e ≡ x
+        same_one : (e : E) → PassedAt n set sheet h e i k → e ≡ x
         same_one e w = named.equal e w.test w.same ∙ it_is e w
 
         go : (a b c : Bool) → n.shared sheet x ≡ a → struck_at set o.depth (n.shape sheet x) ≡ b → has n.same x es ≡ c
-            → Upto i (suc k) (added (cond a Shared (cond b Struck (cond c Repeated Kept))) es x)
+            → Upto i (suc k) (entries_with (cond a Shared (cond b Struck (cond c Repeated Kept))) es x)
         go true b c d e f = skip i k es u (λ y w. absurd (both_ways (n.shared sheet x) (ap (n.shared sheet) (sym (it_is y w)) ∙ w.unshared) d))
         go false true c d e f = skip i k es u (λ y w. absurd (both_ways (struck_at set o.depth (n.shape sheet x)) (unstruck y w) e))
           where
-            unstruck : (y : E) (w : Passed n set sheet h y i k) → struck_at set o.depth (n.shape sheet x) ≡ false
+            unstruck : (y : E) (w : PassedAt n set sheet h y i k) → struck_at set o.depth (n.shape sheet x) ≡ false
             unstruck y w =
                 (λ j. struck_at set (sym (only h i w.offer o w.accepted there) j).depth (n.shape sheet (sym (it_is y w) j))) ∙ w.passed
         go false false true d e f = skip i k es u (λ y w. subst (λ (z : E). has n.same z es ≡ true) (sym (same_one y w)) f)
@@ -144,19 +143,19 @@ module _ {E : Type 0} (n : Naming E) (set : Shape → Bool) (sheet : Sheet) (h :
             keep named i k es x u f (record { offer = o; test = x; accepted = there; holds = p; same = named.itself x; unshared = d; passed = e }) same_one
 
     several : (ts : List E) (k l : ℕ) (es : List E) → l ≡ k + length ts → ((j m : ℕ) (x : E) → m ≡ k + j → At ts j x → At (n.tests sheet o.what) m x)
-        → Upto i k es → Upto i l (listed_after by es ts)
+        → Upto i k es → Upto i l (entries_after by es ts)
     several [] k l es e f u = subst (λ (m : ℕ). Upto i m es) (same k l e) u
       where
         same : (k l : ℕ) → l ≡ k + 0 → k ≡ l
         same k l e = omega arith
     several (x ∷ ts) k l es e f u =
-        several ts (suc k) l (added (class_of by es x) es x) (omega arith) (λ j m y c s. f (suc j) m y (omega arith) s)
+        several ts (suc k) l (entries_with (class_of by es x) es x) (omega arith) (λ j m y c s. f (suc j) m y (omega arith) s)
         (one k es x (f zero k x (omega arith) refl) u)
 
     -- all tests of the offer
-    pub offer : (es : List E) → Upto i 0 es → Upto (suc i) 0 (listed_after by es (n.tests sheet o.what))
+    pub offer : (es : List E) → Upto i 0 es → Upto (suc i) 0 (entries_after by es (n.tests sheet o.what))
     offer es u =
-        turn i (length ts) (listed_after by es ts) (several ts 0 (length ts) es (omega arith) (λ j m x e s. subst (λ (l : ℕ). At ts l x) (same j m e) s) u)
+        turn i (length ts) (entries_after by es ts) (several ts 0 (length ts) es (omega arith) (λ j m x e s. subst (λ (l : ℕ). At ts l x) (same j m e) s) u)
         (λ e q w. below ts q w.test (subst (λ (a : Accepted). At (n.tests sheet a.what) q w.test) (only h i w.offer o w.accepted there) w.holds))
       where
         same : (j m : ℕ) → m ≡ 0 + j → j ≡ m

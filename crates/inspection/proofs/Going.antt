@@ -3,23 +3,23 @@ use Rattle.std.proofs.Common.{◌≡◌, ℕ, ◌+◌, List, [], ◌∷◌, ◌+
 use Rattle.inspection.specs.declared.classes.Class.{Class}
 use Rattle.inspection.specs.declared.classes.Class.TheVariants.{Kept, Struck, Shared, Repeated}
 use Rattle.inspection.specs.declared.classes.Tally.{Tally}
-use Rattle.inspection.specs.Totals.{no_tests, total}
-use Rattle.inspection.specs.Classes.{Judge, counted, class_of, added, listed_after, counted_after}
+use Rattle.inspection.specs.Tallies.{no_tests, total, with_one_more}
+use Rattle.inspection.specs.Classes.{Rules, class_of, entries_with, entries_after, tally_after}
 
-one_more : (c : Class) (t : Tally) → total (counted c t) ≡ total t + 1
+one_more : (c : Class) (t : Tally) → total (with_one_more c t) ≡ total t + 1
 one_more Kept t = omega arith
 one_more Struck t = omega arith
 one_more Shared t = omega arith
 one_more Repeated t = omega arith
 
-module _ {E : Type 0} (j : Judge E) (old tests : List E) where
+module _ {E : Type 0} (j : Rules E) (old tests : List E) where
   pub record Going (i : ℕ) (new : List E) (tally : Tally) : Type 0 where
-    pub listed : listed_after j (old ++ new) (drop i tests) ≡ listed_after j old tests
-    pub counts : counted_after j (old ++ new) (drop i tests) tally ≡ counted_after j old tests no_tests
+    pub entries : entries_after j (old ++ new) (drop i tests) ≡ entries_after j old tests
+    pub counts : tally_after j (old ++ new) (drop i tests) tally ≡ tally_after j old tests no_tests
     pub all : total tally ≡ i
 
-pub total-after : {E : Type 0} (j : Judge E) (es tests : List E) (t : Tally) → total (counted_after j es tests t) ≡ total t + length tests
+pub total-after : {E : Type 0} (j : Rules E) (es tests : List E) (t : Tally) → total (tally_after j es tests t) ≡ total t + length tests
 total-after j es [] t = omega arith
 total-after j es (e ∷ rest) t =
     let k = class_of j es e in
-    omega (arith, total-after j (added k es e) rest (counted k t), one_more k t)
+    omega (arith, total-after j (entries_with k es e) rest (with_one_more k t), one_more k t)

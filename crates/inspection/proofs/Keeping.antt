@@ -9,9 +9,9 @@ use Rattle.inspection.specs.Sheets.{Sheet, point_at}
 use Rattle.inspection.specs.Tests.{Naming}
 use Rattle.inspection.specs.Lists.{At, has}
 use Rattle.inspection.specs.Runs.{Accepted}
-use Rattle.inspection.specs.Claims.{Passed, ClaimOfKind, Agree, Answered, Covers}
+use Rattle.inspection.specs.Claims.{PassedAt, ClaimOfKind, Agree, MatchesOffers, Covers}
 use Rattle.inspection.proofs.Standing.{below}
-use Rattle.inspection.proofs.Namings.{Named}
+use Rattle.inspection.proofs.NamingLaws.{NamingLaws}
 use Rattle.inspection.proofs.Gathering.{Upto}
 use Rattle.inspection.proofs.Agreeing.{agreed}
 
@@ -19,21 +19,20 @@ use Rattle.inspection.proofs.Agreeing.{agreed}
 room : (k d : ℕ) → k ≡ 0 → d ≤ 6 → k + d ≤ 6
 room k d e h = omega arith
 
-module _ {E : Type 0} (n : Naming E) (set : Shape → Bool) (law : Lawful set) (sheet : Sheet) (named : Named n sheet) where
+module _ {E : Type 0} (n : Naming E) (set : Shape → Bool) (law : Lawful set) (sheet : Sheet) (named : NamingLaws n sheet) where
   struck-there : (d : ℕ) (e : E) → d ≤ 6 → ((k : ℕ) → InReach 0 (point_at sheet k)) → struck_at set d (n.shape sheet e) ≡ true → Struck set d (n.shape sheet e)
   struck-there d e s r t = struck set law d (n.shape sheet e) (named.valid r e) (room (n.shape sheet e).scale d (named.scale e) s) t
 
   module _ (h : List Accepted) (shallow : (i : ℕ) (o : Accepted) → At h i o → o.depth ≤ 6) (reached : (i : ℕ) (o : Accepted) → At h i o → (k : ℕ) → InReach 0 (point_at sheet k))
       (es : List E) (u : Upto n set sheet h (length h) 0 es) where
-    pub all-passed : (e : E) (i j : ℕ) → Passed n set sheet h e i j → has n.same e es ≡ true
+    pub all-passed : (e : E) (i j : ℕ) → PassedAt n set sheet h e i j → has n.same e es ≡ true
     all-passed e i j w = u.passed e i j w (inl (below h i w.offer w.accepted))
 
     pub kept : ClaimOfKind n set sheet h es
     kept =
         record {
           apart = stays;
-          listed = λ e t. let (i, (j, (w, b))) = u.listed e t in (i, (j, w));
-          passed = all-passed;
+          listed = λ e. (λ t. let (i, (j, (w, b))) = u.listed e t in (i, (j, w)), λ (i, (j, w)). all-passed e i j w);
           once = u.once;
           order = λ k l x y s t b. u.order k l x y s t b;
         }
@@ -48,9 +47,9 @@ module _ {E : Type 0} (n : Naming E) (set : Shape → Bool) (law : Lawful set) (
 
     -- what another run lists, by a set that agrees
     module _ (set' : Shape → Bool) (same : Agree set set') (other : List Accepted) (shallow' : (i : ℕ) (o : Accepted) → At other i o → o.depth ≤ 6)
-        (others : List E) (v : Upto n set' sheet other (length other) 0 others) (answered : Answered h other) where
+        (others : List E) (v : Upto n set' sheet other (length other) 0 others) (answered : MatchesOffers h other) where
       -- what is alike, offered here
-      passed-as : (e : E) (i j : ℕ) (w : Passed n set' sheet other e i j) (k l : ℕ) (p : Accepted) → At h k p → p.depth ≤ w.offer.depth
+      passed-as : (e : E) (i j : ℕ) (w : PassedAt n set' sheet other e i j) (k l : ℕ) (p : Accepted) → At h k p → p.depth ≤ w.offer.depth
           → At (n.tests sheet p.what) l w.test → has n.same e es ≡ true
       passed-as e i j w k l p a c t =
           all-passed e k l (record { offer = p; test = w.test; accepted = a; holds = t; same = w.same; unshared = w.unshared; passed = false_from_ne_true (struck_at set p.depth (n.shape sheet w.test)) not-struck })
@@ -69,7 +68,7 @@ module _ {E : Type 0} (n : Naming E) (set : Shape → Bool) (law : Lawful set) (
               both_ways (struck_at set w.offer.depth (n.shape sheet w.test)) there
               ((struck-there p.depth w.test (shallow k p a) (reached k p a) s).deeper w.offer.depth c fits)
 
-      passed-here : (e : E) (i j : ℕ) → Passed n set' sheet other e i j → has n.same e es ≡ true
+      passed-here : (e : E) (i j : ℕ) → PassedAt n set' sheet other e i j → has n.same e es ≡ true
       passed-here e i j w =
           let (k, (p, (a, b, c))) = answered i w.offer w.accepted in
           let (l, t) = named.turned w.offer.what p.what b j w.test w.holds w.unshared in

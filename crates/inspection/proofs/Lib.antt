@@ -1,12 +1,12 @@
 pub mod Coordinates
-pub mod ByRules
 pub mod Going
 pub mod Offering
 pub mod Working
 pub mod Standing
-pub mod Namings
-pub mod NamedVf
-pub mod NamedEe
+pub mod Sameness
+pub mod NamingLaws
+pub mod VfNames
+pub mod EeNames
 pub mod Befores
 pub mod Gathering
 pub mod Agreeing

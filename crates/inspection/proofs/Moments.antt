@@ -1,12 +1,11 @@
 -- What holds at every moment of a run.
-use Rattle.std.proofs.Common.{◌≡◌, ℕ, zero, suc, ◌+◌, ◌*◌, ◌<◌, ◌≤◌, Bool, true, false, not, cond, ◌&&◌, count_by, nat_lt, List, [], ◌∷◌, ◌++◌, length, take, get_or, map, Some, Ok, Err, Result, sym, refl, ap, ◌∙◌, subst, subst₂, ⊎_elim, ltb-false, append_assoc, length-append, length-take-le, zero-add, arith}
+use Rattle.std.proofs.Common.{◌≡◌, ℕ, zero, suc, ◌+◌, ◌*◌, ◌<◌, ◌≤◌, Bool, true, false, not, cond, ◌&&◌, count_by, nat_lt, List, [], ◌∷◌, ◌++◌, length, take, get_or, map, Ok, Err, Result, sym, refl, ap, ◌∙◌, subst, subst₂, ⊎_elim, ltb-false, append_assoc, length-append, length-take-le, zero-add, arith}
 use Rattle.std.proofs.Math.ListN.{get_or-map}
 use Rattle.std.proofs.lemmas.List.Sums.{sum_by-append, sum_by-cons}
 use Rattle.motion.specs.Depths.{struck_at}
 use Rattle.std.proofs.lemmas.List.{length-map}
 use Rattle.std.proofs.lemmas.Bool.{or_parts, not-false, leb-false, eqb-false}
-use Rattle.sheet.specs.Checks.{Check, answer, first_fit, unless}
-use Rattle.sheet.specs.declared.notices.Notice.{Notice}
+use Rattle.sheet.proofs.FirstFit.{NoneFits, none_fits}
 use Rattle.sheet.specs.declared.drafts.Draft.{Draft}
 use Rattle.sheet.specs.declared.rows.Point.{Point}
 use Rattle.sheet.specs.declared.rows.Face.{Face}
@@ -16,74 +15,83 @@ use Rattle.inspection.specs.declared.faults.OpeningFault.{OpeningFault}
 use Rattle.inspection.specs.declared.classes.Class.{Class}
 use Rattle.inspection.specs.declared.classes.Class.TheVariants.{Kept, Struck, Shared, Repeated}
 use Rattle.inspection.specs.declared.classes.Tally.{Tally}
-use Rattle.inspection.specs.Totals.{no_tests, total}
+use Rattle.inspection.specs.declared.kinds.ListKind.TheVariants.{Vf, Ee}
+use Rattle.inspection.specs.Tallies.{no_tests, total, with_one_more, tally_in}
 use Rattle.inspection.specs.Offerings.{Offering, Faces}
 use Rattle.inspection.specs.Sheets.{Sheet, sheet_in, moving_of, nowhere, point_at, face_at}
 use Rattle.inspection.specs.Tests.{Naming, vf_naming, ee_naming}
 use Rattle.inspection.specs.Lists.{At, has}
-use Rattle.inspection.specs.Classes.{Judge, counted, class_of, added, listed_after, counted_after}
-use Rattle.inspection.specs.States.{Core, State, tally_of}
-use Rattle.inspection.specs.Offers.{short, judge, entries_after, tally_after, taken, offer_checks, corners_below}
-use Rattle.inspection.specs.Runs.{depth_checks, Opened, DepthSet, Accepted, Brings, Run}
+use Rattle.inspection.specs.Classes.{Rules, rules_at, class_of, entries_with, entries_after, tally_after}
+use Rattle.inspection.specs.States.{Core, State}
+use Rattle.inspection.specs.Offers.{lacks_rows, entries_by, tally_by, state_after, offer_checks, corners_below}
+use Rattle.inspection.specs.Runs.{depth_checks, Opened, DepthStep, Accepted, Brings, Run}
 use Rattle.inspection.specs.Runs.Run.{opened, depth_set, offered, asked}
 use Rattle.inspection.specs.Claims.{CountsOfKind, how_many, OfSheet}
 use Rattle.inspection.proofs.Coordinates.{in_reach}
 use Rattle.inspection.proofs.Standing.{behind, parts}
-use Rattle.inspection.proofs.Namings.{Named}
-use Rattle.inspection.proofs.NamedVf.{vf_named}
-use Rattle.inspection.proofs.NamedEe.{ee_named}
+use Rattle.inspection.proofs.NamingLaws.{NamingLaws}
+use Rattle.inspection.proofs.VfNames.{vf_laws}
+use Rattle.inspection.proofs.EeNames.{ee_laws}
 use Rattle.inspection.proofs.Gathering.{Upto, nothing, offer}
 use Rattle.inspection.proofs.Going.{total-after}
 
 -- ---- the tests of one kind: what is listed of them, and how they are counted, `times` being how many there are of so many offers
-pub record Kind {E : Type 0} (n : Naming E) (times : ℕ → ℕ) (set : Shape → Bool) (sheet : Sheet) (h : List Accepted) (es : List E) (t : Tally) : Type 0 where
+pub record KindSoFar {E : Type 0} (n : Naming E) (times : ℕ → ℕ) (set : Shape → Bool) (sheet : Sheet) (h : List Accepted) (es : List E) (t : Tally) : Type 0 where
   pub gathered : (rest : List Accepted) → Upto n set sheet (h ++ rest) (length h) 0 es
   pub classes : total t ≡ times (length h)
   pub counts : CountsOfKind n set sheet h es t
 
-one_kept : {E : Type 0} (c : Class) (es : List E) (e : E) (t : Tally) → t.kept ≡ length es → (counted c t).kept ≡ length (added c es e)
+one_kept : {E : Type 0} (c : Class) (es : List E) (e : E) (t : Tally) → t.kept ≡ length es → (with_one_more c t).kept ≡ length (entries_with c es e)
 one_kept Kept es e t h = let l = length-append es (e ∷ []) in omega arith
 one_kept Struck es e t h = h
 one_kept Shared es e t h = h
 one_kept Repeated es e t h = h
 
-all_kept : {E : Type 0} (j : Judge E) (es ts : List E) (t : Tally) → t.kept ≡ length es → (counted_after j es ts t).kept ≡ length (listed_after j es ts)
+all_kept : {E : Type 0} (j : Rules E) (es ts : List E) (t : Tally) → t.kept ≡ length es → (tally_after j es ts t).kept ≡ length (entries_after j es ts)
 all_kept j es [] t h = h
-all_kept j es (x ∷ ts) t h = let c = class_of j es x in all_kept j (added c es x) ts (counted c t) (one_kept c es x t h)
+all_kept j es (x ∷ ts) t h = let c = class_of j es x in all_kept j (entries_with c es x) ts (with_one_more c t) (one_kept c es x t h)
 
 -- of the class that the rules give
 module _ (a b c : Bool) (t : Tally) where
   abbrev by_rules : Class
   by_rules = cond a Shared (cond b Struck (cond c Repeated Kept))
 
-one_shared : (a b c : Bool) (t : Tally) → (counted (by_rules a b c t) t).shared ≡ t.shared + cond a 1 0
+one_shared : (a b c : Bool) (t : Tally) → (with_one_more (by_rules a b c t) t).shared ≡ t.shared + cond a 1 0
 one_shared true b c t = refl
 one_shared false true c t = omega arith
 one_shared false false true t = omega arith
 one_shared false false false t = omega arith
 
-one_struck : (a b c : Bool) (t : Tally) → (counted (by_rules a b c t) t).struck ≡ t.struck + cond (not a && b) 1 0
+one_passed : (a b c : Bool) (t : Tally) → (with_one_more (by_rules a b c t) t).kept + (with_one_more (by_rules a b c t) t).repeated ≡ t.kept + t.repeated + cond (not a && not b) 1 0
+one_passed true b c t = omega arith
+one_passed false true c t = omega arith
+one_passed false false true t = omega arith
+one_passed false false false t = omega arith
+
+one_struck : (a b c : Bool) (t : Tally) → (with_one_more (by_rules a b c t) t).struck ≡ t.struck + cond (not a && b) 1 0
 one_struck true b c t = omega arith
 one_struck false true c t = refl
 one_struck false false true t = omega arith
 one_struck false false false t = omega arith
 
-module _ {E : Type 0} (j : Judge E) where
-  all_shared : (es ts : List E) (t : Tally) → (counted_after j es ts t).shared ≡ t.shared + count_by j.shared ts
+module _ {E : Type 0} (j : Rules E) where
+  all_shared : (es ts : List E) (t : Tally) → (tally_after j es ts t).shared ≡ t.shared + count_by j.shared ts
   all_shared es [] t = omega arith
   all_shared es (x ∷ ts) t =
       let c = class_of j es x in
-      omega (arith, all_shared (added c es x) ts (counted c t), one_shared (j.shared x) (j.struck x) (has j.same x es) t, sum_by-cons (λ e. cond (j.shared e) 1 0) x ts)
+      omega (arith, all_shared (entries_with c es x) ts (with_one_more c t), one_shared (j.shared x) (j.struck x) (has j.same x es) t, sum_by-cons (λ e. cond (j.shared e) 1 0) x ts)
 
-  all_struck : (es ts : List E) (t : Tally) → (counted_after j es ts t).struck ≡ t.struck + count_by (λ e. not (j.shared e) && j.struck e) ts
+  all_struck : (es ts : List E) (t : Tally) → (tally_after j es ts t).struck ≡ t.struck + count_by (λ e. not (j.shared e) && j.struck e) ts
   all_struck es [] t = omega arith
   all_struck es (x ∷ ts) t =
       let c = class_of j es x in
-      omega (arith, all_struck (added c es x) ts (counted c t), one_struck (j.shared x) (j.struck x) (has j.same x es) t, sum_by-cons (λ e. cond (not (j.shared e) && j.struck e) 1 0) x ts)
+      omega (arith, all_struck (entries_with c es x) ts (with_one_more c t), one_struck (j.shared x) (j.struck x) (has j.same x es) t, sum_by-cons (λ e. cond (not (j.shared e) && j.struck e) 1 0) x ts)
 
-each_one : {E : Type 0} (ts : List E) → length ts ≡ count_by (λ e. true) ts
-each_one [] = refl
-each_one (x ∷ ts) = omega (arith, each_one ts, sum_by-cons (λ e. 1) x ts)
+  all_passed : (es ts : List E) (t : Tally) → (tally_after j es ts t).kept + (tally_after j es ts t).repeated ≡ t.kept + t.repeated + count_by (λ e. not (j.shared e) && not (j.struck e)) ts
+  all_passed es [] t = omega arith
+  all_passed es (x ∷ ts) t =
+      let c = class_of j es x in
+      omega (arith, all_passed (entries_with c es x) ts (with_one_more c t), one_passed (j.shared x) (j.struck x) (has j.same x es) t, sum_by-cons (λ e. cond (not (j.shared e) && not (j.struck e)) 1 0) x ts)
 
 -- with one offer more
 more-of : {E : Type 0} (n : Naming E) (sheet : Sheet) (h : List Accepted) (o : Accepted) (p : Accepted → E → Bool)
@@ -94,52 +102,41 @@ longer : (h : List Accepted) (o : Accepted) → length (h ++ (o ∷ [])) ≡ suc
 longer h o = omega (arith, length-append h (o ∷ []))
 
 module _ {E : Type 0} (n : Naming E) (times : ℕ → ℕ) (set : Shape → Bool) (sheet : Sheet) where
-  no-offer : times 0 ≡ 0 → Kind n times set sheet [] [] no_tests
-  no-offer z = record { gathered = nothing n set sheet; classes = sym z; counts = record { all = refl; shared = refl; struck = refl; kept = refl } }
+  no-offer : times 0 ≡ 0 → KindSoFar n times set sheet [] [] no_tests
+  no-offer z = record { gathered = nothing n set sheet; classes = sym z; counts = record { shared = refl; struck = refl; passed = refl; kept = refl } }
 
-  one-more : Named n sheet → (h : List Accepted) (o : Accepted) (es : List E) (t : Tally) → times (suc (length h)) ≡ times (length h) + length (n.tests sheet o.what) → Kind n times set sheet h es t
-      → Kind n times set sheet (h ++ (o ∷ [])) (entries_after n set o.depth sheet o.what es) (tally_after n set o.depth sheet o.what es t)
+  one-more : NamingLaws n sheet → (h : List Accepted) (o : Accepted) (es : List E) (t : Tally) → times (suc (length h)) ≡ times (length h) + length (n.tests sheet o.what) → KindSoFar n times set sheet h es t
+      → KindSoFar n times set sheet (h ++ (o ∷ [])) (entries_by n set o.depth sheet o.what es) (tally_by n set o.depth sheet o.what es t)
   one-more named h o es t m k =
-      let j : Judge E = judge n set o.depth sheet o.what in
+      let j : Rules E = rules_at n set o.depth sheet in
       let ts : List E = n.tests sheet o.what in
       record {
         gathered = λ rest.
-            subst (λ (x : List Accepted). Upto n set sheet x (length (h ++ (o ∷ []))) 0 (listed_after j es ts)) (sym (append_assoc h (o ∷ []) rest))
-            (subst (λ (i : ℕ). Upto n set sheet (h ++ (o ∷ rest)) i 0 (listed_after j es ts)) (sym (longer h o))
+            subst (λ (x : List Accepted). Upto n set sheet x (length (h ++ (o ∷ []))) 0 (entries_after j es ts)) (sym (append_assoc h (o ∷ []) rest))
+            (subst (λ (i : ℕ). Upto n set sheet (h ++ (o ∷ rest)) i 0 (entries_after j es ts)) (sym (longer h o))
             (offer n set sheet (h ++ (o ∷ rest)) named (length h) o (behind h (o ∷ rest) 0 (length h) o (omega arith) refl) es (k.gathered (o ∷ rest))));
         classes = total-after j es ts t ∙ ap (λ (x : ℕ). x + length ts) k.classes ∙ sym m ∙ ap times (sym (longer h o));
         counts = record {
-          all = total-after j es ts t ∙ (λ i. k.counts.all i + each_one ts i) ∙ sym (more-of n sheet h o (λ o e. true));
           shared = all_shared j es ts t ∙ ap (λ (x : ℕ). x + count_by j.shared ts) k.counts.shared ∙ sym (more-of n sheet h o (λ o e. n.shared sheet e));
           struck =
               all_struck j es ts t ∙ ap (λ (x : ℕ). x + count_by (λ e. not (j.shared e) && j.struck e) ts) k.counts.struck
               ∙ sym (more-of n sheet h o (λ o e. not (n.shared sheet e) && struck_at set o.depth (n.shape sheet e)));
+          passed =
+              all_passed j es ts t ∙ ap (λ (x : ℕ). x + count_by (λ e. not (j.shared e) && not (j.struck e)) ts) k.counts.passed
+              ∙ sym (more-of n sheet h o (λ o e. not (n.shared sheet e) && not (struck_at set o.depth (n.shape sheet e))));
           kept = all_kept j es ts t k.counts.kept;
         };
       }
 
 -- ---- an accepted offer: its depth, and that it saw the sheet
-pub record Fair (sheet : Sheet) (o : Accepted) : Type 0 where
+pub record OfferFacts (sheet : Sheet) (o : Accepted) : Type 0 where
   pub shallow : o.depth ≤ 6
   pub near : (k : ℕ) → InReach 0 (point_at sheet k)
   pub of_sheet : OfSheet sheet o.what
 
-abbrev NoneFits : List Check → Type 0
-NoneFits [] = Unit {0}
-NoneFits (c ∷ cs) = (c.fits ≡ false) × NoneFits cs
-
-none_fits : (cs : List Check) → ◌≡◌ {A = Result (Unit {0}) Notice} (Ok tt) (answer cs tt) → NoneFits cs
-none_fits [] q = tt
-none_fits (c ∷ cs) q = let r = go c.fits refl q in (r.0, none_fits cs r.1)
-  where
-    go : (b : Bool) → c.fits ≡ b → ◌≡◌ {A = Result (Unit {0}) Notice} (Ok tt) (unless (cond b (Some c.tells) (first_fit cs)) tt)
-        → (c.fits ≡ false) × (◌≡◌ {A = Result (Unit {0}) Notice} (Ok tt) (answer cs tt))
-    go true e q = cc
-    go false e q = (e, q)
-
-fair : (set : Shape → Bool) (s : State) (ps : List Point) (fs : List Face) (w : Offering) → s.core.depth ≤ 6 → NoneFits (offer_checks set ps fs w s)
-    → Fair (sheet_in s.core.draft ps fs) (record { what = w; depth = s.core.depth })
-fair set s ps fs (Faces f g) low (a, (b, (c, (d, (e, (k, r)))))) =
+offer_facts : (set : Shape → Bool) (s : State) (ps : List Point) (fs : List Face) (w : Offering) → s.core.depth ≤ 6 → NoneFits (offer_checks set ps fs w s)
+    → OfferFacts (sheet_in s.core.draft ps fs) (record { what = w; depth = s.core.depth })
+offer_facts set s ps fs (Faces f g) low (a, (b, (c, (d, (e, (k, r)))))) =
     let dr : Draft = s.core.draft in
     let p = or_parts (nat_lt (length ps) dr.points) (nat_lt (length fs) dr.faces) a in
     let lp : length (map moving_of (take dr.points ps)) ≡ dr.points = length-map (take dr.points ps) moving_of ∙ length-take-le dr.points ps (ltb-false _ _ p.0) in
@@ -163,7 +160,7 @@ nine : (sheet : Sheet) (w : Offering) (i : ℕ) → 9 * suc i ≡ 9 * i + length
 nine sheet (Faces f g) i = omega arith
 
 -- what does not fit
-tables-there : (set : Shape → Bool) (ps : List Point) (fs : List Face) (w : Offering) (s : State) → NoneFits (offer_checks set ps fs w s) → short s.core.draft ps fs ≡ false
+tables-there : (set : Shape → Bool) (ps : List Point) (fs : List Face) (w : Offering) (s : State) → NoneFits (offer_checks set ps fs w s) → lacks_rows s.core.draft ps fs ≡ false
 tables-there set ps fs (Faces f g) s n = n.0
 
 -- ---- the whole
@@ -171,9 +168,9 @@ pub record Moment (set : Shape → Bool) (d : Draft) (sheet : Sheet) (h : List A
   pub draft : s.core.draft ≡ d
   pub depth : s.core.depth ≤ 6
   pub offers : s.core.accepted ≡ length h
-  pub each : (i : ℕ) (o : Accepted) → At h i o → Fair sheet o
-  pub vf : Kind vf_naming (λ i. 6 * i) set sheet h s.vf.entries (tally_of 0 s.core)
-  pub ee : Kind ee_naming (λ i. 9 * i) set sheet h s.ee.entries (tally_of 1 s.core)
+  pub each : (i : ℕ) (o : Accepted) → At h i o → OfferFacts sheet o
+  pub vf : KindSoFar vf_naming (λ i. 6 * i) set sheet h s.vf.entries (tally_in Vf s.core.tallies)
+  pub ee : KindSoFar ee_naming (λ i. 9 * i) set sheet h s.ee.entries (tally_in Ee s.core.tallies)
 
 module _ (set : Shape → Bool) (d : Draft) (sheet : Sheet) where
   at-opening : (s : State) → Opened d s → Moment set d sheet [] s
@@ -183,32 +180,32 @@ module _ (set : Shape → Bool) (d : Draft) (sheet : Sheet) where
         depth = o.depth;
         offers = ap (λ (c : Core). c.accepted) o.core;
         each = λ i p q. absurd q;
-        vf = subst₂ (Kind vf_naming (λ i. 6 * i) set sheet []) (sym o.vf) (sym (ap (tally_of 0) o.core)) (no-offer vf_naming (λ i. 6 * i) set sheet refl);
-        ee = subst₂ (Kind ee_naming (λ i. 9 * i) set sheet []) (sym o.ee) (sym (ap (tally_of 1) o.core)) (no-offer ee_naming (λ i. 9 * i) set sheet refl);
+        vf = subst₂ (KindSoFar vf_naming (λ i. 6 * i) set sheet []) (sym o.vf) (sym (ap (λ (c : Core). tally_in Vf c.tallies) o.core)) (no-offer vf_naming (λ i. 6 * i) set sheet refl);
+        ee = subst₂ (KindSoFar ee_naming (λ i. 9 * i) set sheet []) (sym o.ee) (sym (ap (λ (c : Core). tally_in Ee c.tallies) o.core)) (no-offer ee_naming (λ i. 9 * i) set sheet refl);
       }
 
-  at-other-depth : (h : List Accepted) (s : State) (k : ℕ) (r : Result (Unit {0}) OpeningFault) (c : Core) → DepthSet k s.core r c → Moment set d sheet h s
+  at-other-depth : (h : List Accepted) (s : State) (k : ℕ) (r : Result (Unit {0}) OpeningFault) (c : Core) → DepthStep k s.core r c → Moment set d sheet h s
       → Moment set d sheet h (record { core = c; vf = s.vf; ee = s.ee })
   at-other-depth h s k (Ok tt) c a m =
       subst (λ (c : Core). Moment set d sheet h (record { core = c; vf = s.vf; ee = s.ee })) (sym a.core)
-      (record { draft = m.draft; depth = ltb-false 6 k (none_fits (depth_checks k) a.answer).0; offers = m.offers; each = m.each; vf = m.vf; ee = m.ee })
+      (record { draft = m.draft; depth = ltb-false 6 k (none_fits (depth_checks k) (sym a.fault)).0; offers = m.offers; each = m.each; vf = m.vf; ee = m.ee })
   at-other-depth h s k (Err x) c a m = subst (λ (c : Core). Moment set d sheet h (record { core = c; vf = s.vf; ee = s.ee })) (sym a.core) m
 
   one_offer : (h : List Accepted) (s : State) (ps : List Point) (fs : List Face) (w : Offering) → sheet_in s.core.draft ps fs ≡ sheet → NoneFits (offer_checks set ps fs w s) → Moment set d sheet h s
-      → Moment set d sheet (h ++ (record { what = w; depth = s.core.depth } ∷ [])) (taken set sheet w s)
+      → Moment set d sheet (h ++ (record { what = w; depth = s.core.depth } ∷ [])) (state_after set sheet w s)
   one_offer h s ps fs w e none m =
       let o : Accepted = record { what = w; depth = s.core.depth } in
       record {
         draft = m.draft;
         depth = m.depth;
         offers = omega (arith, m.offers, longer h o);
-        each = λ i p q. ⊎_elim (m.each i p) (λ (j, (x, y)). last o (subst (λ (z : Sheet). Fair z o) e (fair set s ps fs w m.depth none)) j p y) (parts h (o ∷ []) i p q);
-        vf = one-more vf_naming (λ i. 6 * i) set sheet (vf_named sheet) h o s.vf.entries (tally_of 0 s.core) (six sheet w (length h)) m.vf;
-        ee = one-more ee_naming (λ i. 9 * i) set sheet (ee_named sheet) h o s.ee.entries (tally_of 1 s.core) (nine sheet w (length h)) m.ee;
+        each = λ i p q. ⊎_elim (m.each i p) (λ (j, (x, y)). last o (subst (λ (z : Sheet). OfferFacts z o) e (offer_facts set s ps fs w m.depth none)) j p y) (parts h (o ∷ []) i p q);
+        vf = one-more vf_naming (λ i. 6 * i) set sheet (vf_laws sheet) h o s.vf.entries (tally_in Vf s.core.tallies) (six sheet w (length h)) m.vf;
+        ee = one-more ee_naming (λ i. 9 * i) set sheet (ee_laws sheet) h o s.ee.entries (tally_in Ee s.core.tallies) (nine sheet w (length h)) m.ee;
       }
     where
-      last : (o : Accepted) → Fair sheet o → (j : ℕ) (p : Accepted) → At (o ∷ []) j p → Fair sheet p
-      last o x zero p y = subst (Fair sheet) y x
+      last : (o : Accepted) → OfferFacts sheet o → (j : ℕ) (p : Accepted) → At (o ∷ []) j p → OfferFacts sheet p
+      last o x zero p y = subst (OfferFacts sheet) y x
       last o x (suc j) p y = absurd y
 
   pub moment : {h : List Accepted} {s : State} → Run set d sheet h s → Moment set d sheet h s
@@ -217,8 +214,8 @@ module _ (set : Shape → Bool) (d : Draft) (sheet : Sheet) where
       subst₂ (λ x y. Moment set d sheet h (record { core = t.core; vf = x; ee = y })) (sym v) (sym e) (at-other-depth h s k r t.core a (moment run))
   moment (offered {h} {s} ps fs w (Ok tt) h' t run b o e) =
       let m : Moment set d sheet h s = moment run in
-      let none = none_fits (offer_checks set ps fs w s) o.answer in
+      let none = none_fits (offer_checks set ps fs w s) (sym o.fault) in
       let brought = subst (λ (x : Draft). Brings x ps fs sheet) (sym m.draft) b (tables-there set ps fs w s none) in
-      subst₂ (Moment set d sheet) (sym e) (ap (λ (x : Sheet). taken set x w s) (sym brought) ∙ sym o.state) (one_offer h s ps fs w brought none m)
+      subst₂ (Moment set d sheet) (sym e) (ap (λ (x : Sheet). state_after set x w s) (sym brought) ∙ sym o.state) (one_offer h s ps fs w brought none m)
   moment (offered {h} {s} ps fs w (Err x) h' t run b o e) = subst₂ (Moment set d sheet) (sym e) (sym o.state) (moment run)
   moment (asked {h} {s} t run e) = subst (Moment set d sheet h) (sym e) (moment run)

@@ -8,29 +8,30 @@ use Rattle.motion.specs.declared.shapes.Shape.{Shape}
 use Rattle.inspection.specs.declared.faults.OpeningFault.{OpeningFault}
 use Rattle.inspection.specs.declared.faults.OfferFault.{OfferFault}
 use Rattle.inspection.specs.declared.requests.Request.{Request}
-use Rattle.inspection.specs.declared.requests.Request.TheVariants.{SetDepth, Offer, VfWindow, EeWindow}
+use Rattle.inspection.specs.declared.requests.Request.TheVariants as request
 use Rattle.inspection.specs.declared.requests.Answer.{Answer}
-use Rattle.inspection.specs.declared.requests.Answer.TheVariants.{DepthSet, Offered, Window}
+use Rattle.inspection.specs.declared.requests.Answer.TheVariants as answer
+use Rattle.inspection.specs.declared.kinds.ListKind.TheVariants.{Vf, Ee}
 use Rattle.inspection.specs.Offerings.{Offering, Faces}
 use Rattle.inspection.specs.Sheets.{Sheet, sheet_in}
 use Rattle.inspection.specs.declared.names.VfName.{VfName}
 use Rattle.inspection.specs.declared.names.EeName.{EeName}
 use Rattle.inspection.specs.Lists.{Contents}
-use Rattle.inspection.specs.States.{Core, State, at_depth, start}
-use Rattle.inspection.specs.Offers.{Offered as OfferAnswered}
-use Rattle.inspection.specs.Runs.{Accepted, history_after, Run, opened, depth_set, offered, asked, DepthSet as DepthAnswered}
-use Rattle.inspection.specs.Requests.{Answered, Steps, history}
+use Rattle.inspection.specs.States.{Core, State, with_depth, state_at_start}
+use Rattle.inspection.specs.Offers.{OfferStep}
+use Rattle.inspection.specs.Runs.{Accepted, history_after, Run, opened, depth_set, offered, asked, DepthStep}
+use Rattle.inspection.specs.Requests.{RequestStep, Steps, history}
 
 -- ---- what a step leaves of the depth
-set-depth : (b : Bool) (k : ℕ) (c : Core) → (cond b (at_depth k c) c).depth ≡ cond b k c.depth
+set-depth : (b : Bool) (k : ℕ) (c : Core) → (cond b (with_depth k c) c).depth ≡ cond b k c.depth
 set-depth true k c = refl
 set-depth false k c = refl
 
 module _ (set : Shape → Bool) (ps : List Point) (fs : List Face) where
-  depth-after : (s t : State) (k : ℕ) (r : Result (Unit {0}) OpeningFault) → DepthAnswered k s.core r t.core → t.core.depth ≡ cond (is_ok r) k s.core.depth
+  depth-after : (s t : State) (k : ℕ) (r : Result (Unit {0}) OpeningFault) → DepthStep k s.core r t.core → t.core.depth ≡ cond (is_ok r) k s.core.depth
   depth-after s t k r a = ap (λ (c : Core). c.depth) a.core ∙ set-depth (is_ok r) k s.core
 
-  offer-depth : (o : Offering) (s t : State) (r : Result (Unit {0}) OfferFault) → OfferAnswered set ps fs o s r t → t.core.depth ≡ s.core.depth
+  offer-depth : (o : Offering) (s t : State) (r : Result (Unit {0}) OfferFault) → OfferStep set ps fs o s r t → t.core.depth ≡ s.core.depth
   offer-depth o s t (Ok u) a = ap (λ (x : State). x.core.depth) a.state
   offer-depth o s t (Err e) a = ap (λ (x : State). x.core.depth) a.state
 
@@ -49,11 +50,11 @@ module _ (set : Shape → Bool) (ps : List Point) (fs : List Face) where
     here h s t r e = subst (λ (k : List Accepted). Runs k t) (sym (append-nil h)) (asked t r e)
 
     by-depth : (h : List Accepted) (k : ℕ) (r : Result (Unit {0}) OpeningFault) (qs : List Request) (rs : List Answer) (s u t : State)
-        → DepthAnswered k s.core r u.core → Ends h qs rs u t → Ends h (SetDepth k ∷ qs) (DepthSet r ∷ rs) s t
+        → DepthStep k s.core r u.core → Ends h qs rs u t → Ends h (request.SetDepth k ∷ qs) (answer.DepthSet r ∷ rs) s t
     by-depth h k r qs rs s u t a e = subst (λ (m : ℕ). Runs (h ++ history m qs rs) t) (depth-after s u k r a) e
 
     by-offer : (h : List Accepted) (f g : ℕ) (x : Result (Unit {0}) OfferFault) (qs : List Request) (rs : List Answer) (s u t : State)
-        → OfferAnswered set ps fs (Faces f g) s x u → Ends (history_after h (Faces f g) s.core.depth x) qs rs u t → Ends h (Offer f g ∷ qs) (Offered x ∷ rs) s t
+        → OfferStep set ps fs (Faces f g) s x u → Ends (history_after h (Faces f g) s.core.depth x) qs rs u t → Ends h (request.Offer f g ∷ qs) (answer.Offered x ∷ rs) s t
     by-offer h f g (Ok v) qs rs s u t a e =
         let o : Accepted = record { what = Faces f g; depth = s.core.depth } in
         subst (λ (k : List Accepted). Runs k t) (append_assoc h (o ∷ []) (history s.core.depth qs rs))
@@ -67,38 +68,38 @@ module _ (set : Shape → Bool) (ps : List Point) (fs : List Face) where
     worked-runs h [] [] s t r w = here h s t r w
     worked-runs h [] (a ∷ rs) s t r w = absurd w
     worked-runs h (q ∷ qs) [] s t r w = absurd w
-    worked-runs h (SetDepth k ∷ qs) (DepthSet x ∷ rs) s t r w =
+    worked-runs h (request.SetDepth k ∷ qs) (answer.DepthSet x ∷ rs) s t r w =
         let u : State = w.0 in
         let a = w.1.0 in
         by-depth h k x qs rs s u t a.0
         (worked-runs h qs rs u t (depth_set k x u r a.0 a.1 a.2) w.1.1)
-    worked-runs h (SetDepth k ∷ qs) (Offered x ∷ rs) s t r w = absurd w.1.0
-    worked-runs h (SetDepth k ∷ qs) (Window x ∷ rs) s t r w = absurd w.1.0
-    worked-runs h (Offer f g ∷ qs) (Offered x ∷ rs) s t r w =
+    worked-runs h (request.SetDepth k ∷ qs) (answer.Offered x ∷ rs) s t r w = absurd w.1.0
+    worked-runs h (request.SetDepth k ∷ qs) (answer.Window x ∷ rs) s t r w = absurd w.1.0
+    worked-runs h (request.Offer f g ∷ qs) (answer.Offered x ∷ rs) s t r w =
         let u : State = w.0 in
         let a = w.1.0 in
         by-offer h f g x qs rs s u t a
         (worked-runs (history_after h (Faces f g) s.core.depth x) qs rs u t
         (offered ps fs (Faces f g) x (history_after h (Faces f g) s.core.depth x) u r (λ b. refl) a refl) w.1.1)
-    worked-runs h (Offer f g ∷ qs) (DepthSet x ∷ rs) s t r w = absurd w.1.0
-    worked-runs h (Offer f g ∷ qs) (Window x ∷ rs) s t r w = absurd w.1.0
-    worked-runs h (VfWindow i ∷ qs) (Window x ∷ rs) s t r w =
+    worked-runs h (request.Offer f g ∷ qs) (answer.DepthSet x ∷ rs) s t r w = absurd w.1.0
+    worked-runs h (request.Offer f g ∷ qs) (answer.Window x ∷ rs) s t r w = absurd w.1.0
+    worked-runs h (request.Window Vf i ∷ qs) (answer.Window x ∷ rs) s t r w =
         let u : State = w.0 in
         let a = w.1.0 in
         same-depth h qs rs s u t a.1 (worked-runs h qs rs u t (asked u r a.1) w.1.1)
-    worked-runs h (VfWindow i ∷ qs) (DepthSet x ∷ rs) s t r w = absurd w.1.0
-    worked-runs h (VfWindow i ∷ qs) (Offered x ∷ rs) s t r w = absurd w.1.0
-    worked-runs h (EeWindow i ∷ qs) (Window x ∷ rs) s t r w =
+    worked-runs h (request.Window Ee i ∷ qs) (answer.Window x ∷ rs) s t r w =
         let u : State = w.0 in
         let a = w.1.0 in
         same-depth h qs rs s u t a.1 (worked-runs h qs rs u t (asked u r a.1) w.1.1)
-    worked-runs h (EeWindow i ∷ qs) (DepthSet x ∷ rs) s t r w = absurd w.1.0
-    worked-runs h (EeWindow i ∷ qs) (Offered x ∷ rs) s t r w = absurd w.1.0
+    worked-runs h (request.Window Vf i ∷ qs) (answer.DepthSet x ∷ rs) s t r w = absurd w.1.0
+    worked-runs h (request.Window Vf i ∷ qs) (answer.Offered x ∷ rs) s t r w = absurd w.1.0
+    worked-runs h (request.Window Ee i ∷ qs) (answer.DepthSet x ∷ rs) s t r w = absurd w.1.0
+    worked-runs h (request.Window Ee i ∷ qs) (answer.Offered x ∷ rs) s t r w = absurd w.1.0
 
   -- ---- one request more, worked at the end
   pub worked-more : (qs : List Request) (rs : List Answer) (q : Request) (a : Answer) (s t u : State)
-      → Steps set ps fs qs rs s t → Answered set ps fs q a t u → Steps set ps fs (qs ++ (q ∷ [])) (rs ++ (a ∷ [])) s u
-  worked-more [] [] q a s t u w b = (u, (subst (λ (x : State). Answered set ps fs q a x u) w b, refl))
+      → Steps set ps fs qs rs s t → RequestStep set ps fs q a t u → Steps set ps fs (qs ++ (q ∷ [])) (rs ++ (a ∷ [])) s u
+  worked-more [] [] q a s t u w b = (u, (subst (λ (x : State). RequestStep set ps fs q a x u) w b, refl))
   worked-more [] (x ∷ rs) q a s t u w b = absurd w
   worked-more (y ∷ qs) [] q a s t u w b = absurd w
   worked-more (y ∷ qs) (x ∷ rs) q a s t u w b = (w.0, (w.1.0, worked-more qs rs q a w.0 t u w.1.1 b))
@@ -106,7 +107,7 @@ module _ (set : Shape → Bool) (ps : List Point) (fs : List Face) where
 -- ---- as a loop over both lists goes on
 module _ (set : Shape → Bool) (ps : List Point) (fs : List Face) where
   pub worked-on : (qs : List Request) (rs : List Answer) (i : ℕ) (d : Request) (a : Answer) (s t u : State) → i < length qs → i < length rs
-      → Steps set ps fs (take i qs) (take i rs) s t → Answered set ps fs (get_or qs i d) a t u
+      → Steps set ps fs (take i qs) (take i rs) s t → RequestStep set ps fs (get_or qs i d) a t u
       → Steps set ps fs (take (i + 1) qs) (take (i + 1) (list_set rs i a)) s u
   worked-on qs rs i d a s t u h k w b =
       rw (take_more qs i d h, take_more_set rs i a k) (worked-more set ps fs (take i qs) (take i rs) (get_or qs i d) a s t u w b)
@@ -116,6 +117,6 @@ rest-more xs ys i a e = drop-set-lt (i + 1) xs i a (omega arith) ∙ sym (drop-d
 
 -- ---- an opened inspection that was worked
 pub runs-on : (set : Shape → Bool) (ps : List Point) (fs : List Face) (d : Draft) (k : ℕ) (vf : Contents VfName) (ee : Contents EeName) (qs : List Request) (rs : List Answer) (t : State) → k ≤ 6
-    → Steps set ps fs qs rs (start d k vf ee) t → Run set d (sheet_in d ps fs) (history k qs rs) t
+    → Steps set ps fs qs rs (state_at_start d k vf ee) t → Run set d (sheet_in d ps fs) (history k qs rs) t
 runs-on set ps fs d k vf ee qs rs t h w =
-    worked-runs set ps fs d [] qs rs (start d k vf ee) t (opened (record { depth = h; core = refl; vf = refl; ee = refl })) w
+    worked-runs set ps fs d [] qs rs (state_at_start d k vf ee) t (opened (record { depth = h; core = refl; vf = refl; ee = refl })) w

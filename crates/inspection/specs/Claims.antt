@@ -1,22 +1,34 @@
--- The claim: what a run's lists say of all that was offered.
-use Rattle.std.specs.Prelude.{◌≡◌, ◌⊎◌, ℕ, ◌*◌, ◌<◌, ◌≤◌, Bool, true, false, not, ◌&&◌, List, length, count_by}
+-- The claim: what a run's lists and counts say of every test that its accepted offers hold.
+use Rattle.std.specs.Prelude.{◌≡◌, ◌⊎◌, ◌↔◌, ℕ, ◌+◌, ◌*◌, ◌<◌, ◌≤◌, Bool, true, false, not, ◌&&◌, List, length, count_by}
 use Rattle.std.specs.List.{sum_by}
 use Rattle.sheet.specs.declared.drafts.Draft.{Draft}
 use Rattle.motion.specs.declared.shapes.Shape.{Shape}
 use Rattle.motion.specs.Laws.{Valid, Apart}
 use Rattle.motion.specs.Depths.{struck_at}
-use Rattle.inspection.specs.Offerings.{Offering, Faces, Alike}
+use Rattle.inspection.specs.declared.classes.Tally.{Tally}
+use Rattle.inspection.specs.declared.kinds.ListKind.TheVariants.{Vf, Ee}
+use Rattle.inspection.specs.Tallies.{total, tally_in}
+use Rattle.inspection.specs.Offerings.{Offering, Faces, SameOffering}
 use Rattle.inspection.specs.Sheets.{Sheet, face_at}
 use Rattle.inspection.specs.Tests.{Naming, vf_naming, ee_naming, corners_inside}
 use Rattle.inspection.specs.Lists.{At, has}
-use Rattle.inspection.specs.declared.classes.Tally.{Tally}
-use Rattle.inspection.specs.Totals.{total}
-use Rattle.inspection.specs.States.{State, tally_of}
+use Rattle.inspection.specs.States.{State}
 use Rattle.inspection.specs.Runs.{Accepted, Run}
 
-module _ {E : Type 0} (n : Naming E) (set : Shape → Bool) (sheet : Sheet) (history : List Accepted) where
-  -- the accepted offer with number i has the test e at place j, and passed it at the depth then set; the test is not shared
-  pub record Passed (e : E) (i j : ℕ) : Type 0 where
+-- by offer, then in the order of an offer's tests
+abbrev pub Before : ℕ → ℕ → ℕ → ℕ → Type 0
+Before i j k l = (i < k) ⊎ ((i ≡ k) × (j < l))
+
+-- of the tests of one kind that the accepted offers hold, how many pass a test of them
+abbrev pub how_many : {E : Type 0} → Naming E → Sheet → List Accepted → (Accepted → E → Bool) → ℕ
+how_many n sheet history p = sum_by (λ o. count_by (p o) (n.tests sheet o.what)) history
+
+-- of the tests of one kind, by a filter's set over a sheet, and these accepted offers
+module _
+    {E : Type 0} (n : Naming E) (set : Shape → Bool) (sheet : Sheet) (history : List Accepted) where
+  -- the accepted offer with number i has the test e at place j; it is not shared
+  -- and the offer passed it at the depth then set
+  pub record PassedAt (e : E) (i j : ℕ) : Type 0 where
     pub offer : Accepted
     pub test : E
     pub accepted : At history i offer
@@ -25,43 +37,40 @@ module _ {E : Type 0} (n : Naming E) (set : Shape → Bool) (sheet : Sheet) (his
     pub unshared : n.shared sheet test ≡ false
     pub passed : struck_at set offer.depth (n.shape sheet test) ≡ false
 
--- by offer, then in the order of an offer's tests
-abbrev pub Before : ℕ → ℕ → ℕ → ℕ → Type 0
-Before i j k l = (i < k) ⊎ ((i ≡ k) × (j < l))
+  -- what their list says
+  pub record ClaimOfKind (es : List E) : Type 0 where
+    -- what an accepted offer holds, is not shared and is not listed stays apart for the whole step
+    pub apart : (i j : ℕ) (o : Accepted) (e : E) → At history i o → At (n.tests sheet o.what) j e
+        → n.shared sheet e ≡ false → has n.same e es ≡ false → Apart (n.shape sheet e)
+    -- a test is listed exactly when some accepted offer passed it
+    pub listed : (e : E) → (has n.same e es ≡ true) ↔ ((i : ℕ) × ((j : ℕ) × PassedAt e i j))
+    -- it stands there a single time
+    pub once : (k l : ℕ) (x y : E) → At es k x → At es l y → n.same x y ≡ true → k ≡ l
+    -- of two entries the one that stands first was passed before the other ever was
+    pub order : (k l : ℕ) (x y : E) → At es k x → At es l y → k < l
+        → (i : ℕ) × ((j : ℕ) × (PassedAt x i j
+        × ((i' j' : ℕ) → PassedAt y i' j' → Before i j i' j')))
 
--- of the tests of one kind, and their list
-pub record ClaimOfKind {E : Type 0} (n : Naming E) (set : Shape → Bool) (sheet : Sheet) (history : List Accepted) (es : List E) : Type 0 where
-  -- what an accepted offer holds, is not shared and is on no list stays apart at every fraction of the step
-  pub apart : (i j : ℕ) (o : Accepted) (e : E) → At history i o → At (n.tests sheet o.what) j e → n.shared sheet e ≡ false → has n.same e es ≡ false
-      → Apart (n.shape sheet e)
-  -- a test is listed exactly when some accepted offer passed it
-  pub listed : (e : E) → has n.same e es ≡ true → (i : ℕ) × ((j : ℕ) × Passed n set sheet history e i j)
-  pub passed : (e : E) (i j : ℕ) → Passed n set sheet history e i j → has n.same e es ≡ true
-  -- it stands there a single time
-  pub once : (k l : ℕ) (x y : E) → At es k x → At es l y → n.same x y ≡ true → k ≡ l
-  -- of two entries the one that stands first was passed before the other ever was
-  pub order : (k l : ℕ) (x y : E) → At es k x → At es l y → k < l
-      → (i : ℕ) × ((j : ℕ) × (Passed n set sheet history x i j × ((i' j' : ℕ) → Passed n set sheet history y i' j' → Before i j i' j')))
-
--- of the tests of one kind that accepted offers hold, how many pass a test of them
-abbrev pub how_many : {E : Type 0} → Naming E → Sheet → List Accepted → (Accepted → E → Bool) → ℕ
-how_many n sheet history p = sum_by (λ o. count_by (p o) (n.tests sheet o.what)) history
-
--- what a tally says of the tests of one kind; those that are not shared, not struck and not kept are repeated
-pub record CountsOfKind {E : Type 0} (n : Naming E) (set : Shape → Bool) (sheet : Sheet) (history : List Accepted) (es : List E) (t : Tally) : Type 0 where
-  pub all : total t ≡ how_many n sheet history (λ o e. true)
-  pub shared : t.shared ≡ how_many n sheet history (λ o e. n.shared sheet e)
-  pub struck : t.struck ≡ how_many n sheet history (λ o e. not (n.shared sheet e) && struck_at set o.depth (n.shape sheet e))
-  pub kept : t.kept ≡ length es
+  -- what their tally says
+  pub record CountsOfKind (es : List E) (t : Tally) : Type 0 where
+    pub shared : t.shared ≡ how_many n sheet history (λ o e. n.shared sheet e)
+    pub struck : t.struck ≡ how_many n sheet history
+        (λ o e. not (n.shared sheet e) && struck_at set o.depth (n.shape sheet e))
+    -- what is neither is kept, or repeated; what is kept is listed
+    pub passed : t.kept + t.repeated ≡ how_many n sheet history
+        (λ o e. not (n.shared sheet e) && not (struck_at set o.depth (n.shape sheet e)))
+    pub kept : t.kept ≡ length es
 
 -- two sets that agree on every test
 abbrev pub Agree : (Shape → Bool) → (Shape → Bool) → Type 0
 Agree set set' = (t : Shape) → Valid t → set' t ≡ set t
 
--- each accepted offer of the other history has one here of what is alike, at an equal or smaller depth
-abbrev pub Answered : List Accepted → List Accepted → Type 0
-Answered history other =
-    (i : ℕ) (o : Accepted) → At other i o → (k : ℕ) × ((p : Accepted) × (At history k p × Alike o.what p.what × (p.depth ≤ o.depth)))
+-- each accepted offer of the other history has the same one here, at an equal or smaller depth
+abbrev pub MatchesOffers : List Accepted → List Accepted → Type 0
+MatchesOffers history other =
+    (i : ℕ) (o : Accepted) → At other i o
+    → (k : ℕ) × ((p : Accepted)
+    × (At history k p × SameOffering o.what p.what × (p.depth ≤ o.depth)))
 
 abbrev pub Covers : {E : Type 0} → (E → E → Bool) → List E → List E → Type 0
 Covers {E} same es others = (e : E) → has same e others ≡ true → has same e es ≡ true
@@ -70,7 +79,7 @@ Covers {E} same es others = (e : E) → has same e others ≡ true → has same 
 pub record AreOfSheet (sheet : Sheet) (f g : ℕ) : Type 0 where
   pub first : f < length sheet.faces
   pub second : g < length sheet.faces
-  pub two : f ≡ g → ⊥
+  pub two : ¬ (f ≡ g)
   pub first_corners : corners_inside sheet (face_at sheet f) ≡ true
   pub second_corners : corners_inside sheet (face_at sheet g) ≡ true
 
@@ -78,21 +87,29 @@ abbrev pub OfSheet : Sheet → Offering → Type 0
 OfSheet sheet (Faces f g) = AreOfSheet sheet f g
 
 -- of a run with these accepted offers that ends in this state
-pub record Claim (set : Shape → Bool) (d : Draft) (sheet : Sheet) (history : List Accepted) (s : State) : Type 0 where
+pub record Claim
+    (set : Shape → Bool) (d : Draft) (sheet : Sheet) (history : List Accepted) (s : State)
+    : Type 0 where
   pub draft : s.core.draft ≡ d
   pub vf : ClaimOfKind vf_naming set sheet history s.vf.entries
   pub ee : ClaimOfKind ee_naming set sheet history s.ee.entries
-  -- another run over the same sheet, of any draft, by a filter of the same set, lists nothing that is lacking here, where its offers are answered here
-  pub again : (set' : Shape → Bool) → Agree set set' → (d' : Draft) (other : List Accepted) (t : State) → Run set' d' sheet other t → Answered history other
-      → Covers vf_naming.same s.vf.entries t.vf.entries × Covers ee_naming.same s.ee.entries t.ee.entries
+  -- another run over the same sheet, of any draft, by a filter of the same set, lists nothing that
+  -- is lacking here, where its offers were accepted here
+  pub again : (set' : Shape → Bool) → Agree set set'
+      → (d' : Draft) (other : List Accepted) (t : State) → Run set' d' sheet other t
+      → MatchesOffers history other
+      → Covers vf_naming.same s.vf.entries t.vf.entries
+      × Covers ee_naming.same s.ee.entries t.ee.entries
   pub of_sheet : (i : ℕ) (o : Accepted) → At history i o → OfSheet sheet o.what
   -- each offer's six tests of the one kind and nine of the other are counted, each in one class
   pub offers : s.core.accepted ≡ length history
-  pub vf_classes : total (tally_of 0 s.core) ≡ 6 * length history
-  pub ee_classes : total (tally_of 1 s.core) ≡ 9 * length history
-  pub vf_counts : CountsOfKind vf_naming set sheet history s.vf.entries (tally_of 0 s.core)
-  pub ee_counts : CountsOfKind ee_naming set sheet history s.ee.entries (tally_of 1 s.core)
+  pub vf_classes : total (tally_in Vf s.core.tallies) ≡ 6 * length history
+  pub ee_classes : total (tally_in Ee s.core.tallies) ≡ 9 * length history
+  pub vf_counts : CountsOfKind vf_naming set sheet history s.vf.entries (tally_in Vf s.core.tallies)
+  pub ee_counts : CountsOfKind ee_naming set sheet history s.ee.entries (tally_in Ee s.core.tallies)
 
 -- what every run that ends in this state has found
 abbrev pub Findings : (Shape → Bool) → State → Type 0
-Findings set s = (d : Draft) (sheet : Sheet) (history : List Accepted) → Run set d sheet history s → Claim set d sheet history s
+Findings set s =
+    (d : Draft) (sheet : Sheet) (history : List Accepted) → Run set d sheet history s
+    → Claim set d sheet history s

@@ -1,52 +1,49 @@
--- The classes of tests, and their counts.
-use Rattle.std.specs.Prelude.{ℕ, ◌+◌, Bool, cond, List, [], ◌∷◌, ◌++◌}
+-- The class of each test of an offer, and what is listed and counted by it.
+use Rattle.std.specs.Prelude.{ℕ, Bool, if◌then◌else◌, List, [], ◌∷◌, ◌++◌}
 use Rattle.motion.specs.declared.shapes.Shape.{Shape}
 use Rattle.motion.specs.Depths.{struck_at}
 use Rattle.inspection.specs.declared.classes.Class.{Class}
 use Rattle.inspection.specs.declared.classes.Class.TheVariants.{Kept, Struck, Shared, Repeated}
 use Rattle.inspection.specs.declared.classes.Tally.{Tally}
+use Rattle.inspection.specs.Tallies.{with_one_more}
 use Rattle.inspection.specs.Sheets.{Sheet}
 use Rattle.inspection.specs.Tests.{Naming}
 use Rattle.inspection.specs.Lists.{has}
 
--- one more of a class
-abbrev pub counted : Class → Tally → Tally
-counted Kept t = record { kept = t.kept + 1; struck = t.struck; shared = t.shared; repeated = t.repeated }
-counted Struck t = record { kept = t.kept; struck = t.struck + 1; shared = t.shared; repeated = t.repeated }
-counted Shared t = record { kept = t.kept; struck = t.struck; shared = t.shared + 1; repeated = t.repeated }
-counted Repeated t = record { kept = t.kept; struck = t.struck; shared = t.shared; repeated = t.repeated + 1 }
-
--- as many more of each class
-abbrev pub together : Tally → Tally → Tally
-together s t = record { kept = s.kept + t.kept; struck = s.struck + t.struck; shared = s.shared + t.shared; repeated = s.repeated + t.repeated }
-
--- how the tests of one kind are judged: which are shared, which are struck, which are the same
-pub record Judge (E : Type 0) : Type 0 where
+-- by what the tests of one kind are judged: which are shared, which are struck, which are the same
+pub record Rules (E : Type 0) : Type 0 where
   pub shared : E → Bool
   pub struck : E → Bool
   pub same : E → E → Bool
 
--- by the sheet's rows, and by a filter's set at a depth
-abbrev pub judging : {E : Type 0} → Naming E → (E → E → Bool) → (Shape → Bool) → ℕ → Sheet → Judge E
-judging n same set d s = record { shared = n.shared s; struck = λ e. struck_at set d (n.shape s e); same = same }
+-- over a sheet, by a filter's set at depth d
+abbrev pub rules_at : {E : Type 0} → Naming E → (Shape → Bool) → ℕ → Sheet → Rules E
+rules_at n set d s =
+    record { shared = n.shared s; struck = λ e. struck_at set d (n.shape s e); same = n.same }
 
--- what is listed after a test of this class: a kept one is added at the end
-abbrev pub added : {E : Type 0} → Class → List E → E → List E
-added Kept es e = es ++ (e ∷ [])
-added Struck es e = es
-added Shared es e = es
-added Repeated es e = es
+-- the entries with a test of this class: a kept one is added at the end
+abbrev pub entries_with : {E : Type 0} → Class → List E → E → List E
+entries_with Kept es e = es ++ (e ∷ [])
+entries_with Struck es e = es
+entries_with Shared es e = es
+entries_with Repeated es e = es
 
-module _ {E : Type 0} (j : Judge E) where
+module _ {E : Type 0} (r : Rules E) where
   -- the first rule that fits: shared; struck; repeated, if it is listed; else kept
   abbrev pub class_of : List E → E → Class
-  class_of es e = cond (j.shared e) Shared (cond (j.struck e) Struck (cond (has j.same e es) Repeated Kept))
+  class_of es e =
+      if r.shared e then Shared
+      else if r.struck e then Struck
+      else if has r.same e es then Repeated
+      else Kept
 
   -- the entries after tests, each in its turn
-  abbrev pub listed_after : List E → List E → List E
-  listed_after es [] = es
-  listed_after es (e ∷ rest) = listed_after (added (class_of es e) es e) rest
+  abbrev pub entries_after : List E → List E → List E
+  entries_after es [] = es
+  entries_after es (e ∷ rest) = entries_after (entries_with (class_of es e) es e) rest
 
-  abbrev pub counted_after : List E → List E → Tally → Tally
-  counted_after es [] t = t
-  counted_after es (e ∷ rest) t = counted_after (added (class_of es e) es e) rest (counted (class_of es e) t)
+  -- the tally after them
+  abbrev pub tally_after : List E → List E → Tally → Tally
+  tally_after es [] t = t
+  tally_after es (e ∷ rest) t =
+      let k = class_of es e in tally_after (entries_with k es e) rest (with_one_more k t)

@@ -1,5 +1,6 @@
 -- The number, the layer and the two places of every fault of an inspection's calls.
-use Rattle.std.specs.Prelude.{ℕ}
+use Rattle.std.specs.Prelude.{ℕ, Bool}
+use Rattle.sheet.specs.Checks.{Check}
 use Rattle.sheet.specs.declared.notices.Layer.{Layer}
 use Rattle.sheet.specs.declared.notices.Layer.TheVariants.{Opening, Offer, Window}
 use Rattle.sheet.specs.declared.notices.Notice.{Notice}
@@ -13,6 +14,10 @@ use Rattle.inspection.specs.declared.faults.WindowFault.TheVariants as window
 -- places: the refused number and 0
 abbrev pub notice_at : ℕ → Layer → ℕ → Notice
 notice_at n l i = record { number = n; layer = l; first = i; second = 0 }
+
+-- a row of the fault table: the layer, the condition, the number of the fault and its place
+abbrev pub refuses : Layer → Bool → ℕ → ℕ → Check
+refuses l b n i = record { fits = b; tells = notice_at n l i }
 
 abbrev pub notice_of_opening : OpeningFault → Notice
 notice_of_opening (opening.TooDeep d) = notice_at 15 Opening d

@@ -1,4 +1,4 @@
-pub mod Totals
+pub mod Tallies
 pub mod Names
 pub mod Pairs
 pub mod Sheets

@@ -10,17 +10,21 @@ pub record Contents (E : Type 0) : Type 0 where
   pub lender : ℕ
 
 abbrev pub contents_of : {E : Type 0} → Listing E → Contents E
-contents_of l = record { entries = take l.len l.places.now; rest = drop l.len l.places.now; lender = l.places.ghost_name }
+contents_of l =
+    let table = l.places.now in
+    record { entries = take l.len table; rest = drop l.len table; lender = l.places.ghost_name }
 
 abbrev pub entries : {E : Type 0} → Listing E → List E
 entries l = (contents_of l).entries
 
 -- grown to these entries
-abbrev pub filled : {E : Type 0} → List E → Contents E → Contents E
-filled es h = record { entries = es; rest = drop (length es - length h.entries) h.rest; lender = h.lender }
+abbrev pub with_entries : {E : Type 0} → List E → Contents E → Contents E
+with_entries es h =
+    record { entries = es; rest = drop (length es - length h.entries) h.rest; lender = h.lender }
 
-abbrev pub emptied : {E : Type 0} → Contents E → Contents E
-emptied h = record { entries = []; rest = h.entries ++ h.rest; lender = h.lender }
+-- the same table, and no entry
+abbrev pub without_entries : {E : Type 0} → Contents E → Contents E
+without_entries h = record { entries = []; rest = h.entries ++ h.rest; lender = h.lender }
 
 -- some entry is the same
 abbrev pub has : {E : Type 0} → (E → E → Bool) → E → List E → Bool

@@ -1,5 +1,5 @@
 -- The names of tests, and when a test is shared.
-use Rattle.std.specs.Prelude.{ℕ, Bool, cond, ◌&&◌, ◌||◌, ◌==◌, nat_lt}
+use Rattle.std.specs.Prelude.{ℕ, Bool, if◌then◌else◌, ◌&&◌, ◌||◌, ◌==◌, nat_lt}
 use Rattle.sheet.specs.declared.rows.Face.{Face}
 use Rattle.inspection.specs.declared.names.VfName.{VfName}
 use Rattle.inspection.specs.declared.names.EeName.{EeName}
@@ -13,18 +13,19 @@ ee_same x y = x.u == y.u && x.v == y.v && x.k == y.k && x.l == y.l
 
 -- an edge has its lower number first
 abbrev pub edge_of : ℕ → ℕ → Edge
-edge_of a b = cond (nat_lt b a) (record { first = b; second = a }) (record { first = a; second = b })
+edge_of a b =
+    if nat_lt b a then record { first = b; second = a } else record { first = a; second = b }
 
-abbrev pub meet : Edge → Edge → EeName
-meet e f = record { u = e.first; v = e.second; k = f.first; l = f.second }
+abbrev pub name_in_order : Edge → Edge → EeName
+name_in_order e f = record { u = e.first; v = e.second; k = f.first; l = f.second }
 
 -- the edge with the lower first number is u, v
 abbrev pub ee_name_of : Edge → Edge → EeName
-ee_name_of e f = cond (nat_lt f.first e.first) (meet f e) (meet e f)
+ee_name_of e f = if nat_lt f.first e.first then name_in_order f e else name_in_order e f
 
 -- a test is shared when its point is a corner of its face or its edges have a common point
-abbrev pub corner : ℕ → Face → Bool
-corner p f = p == f.a || p == f.b || p == f.c
+abbrev pub is_corner : ℕ → Face → Bool
+is_corner p f = p == f.a || p == f.b || p == f.c
 
 abbrev pub ee_shared : EeName → Bool
 ee_shared n = n.u == n.k || n.u == n.l || n.v == n.k || n.v == n.l

@@ -6,5 +6,5 @@ pub data Offering : Type 0 where
   Faces : ℕ → ℕ → Offering
 
 -- the same two, in either order
-abbrev pub Alike : Offering → Offering → Type 0
-Alike (Faces f g) (Faces k l) = ((f ≡ k) × (g ≡ l)) ⊎ ((f ≡ l) × (g ≡ k))
+abbrev pub SameOffering : Offering → Offering → Type 0
+SameOffering (Faces f g) (Faces k l) = ((f ≡ k) × (g ≡ l)) ⊎ ((f ≡ l) × (g ≡ k))

@@ -1,6 +1,6 @@
 -- An offer: its checks, in their order, and what it leaves where none fits.
-use Rattle.std.specs.Prelude.{◌≡◌, ℕ, ◌+◌, ◌-◌, Bool, not, cond, ◌&&◌, ◌||◌, List, [], ◌∷◌, ◌++◌, length, Result, is_ok, ◌==◌, nat_le, nat_lt}
-use Rattle.sheet.specs.Checks.{Check, answer, told}
+use Rattle.std.specs.Prelude.{◌≡◌, ℕ, ◌+◌, ◌-◌, Bool, not, if◌then◌else◌, ◌&&◌, ◌||◌, List, [], ◌∷◌, ◌++◌, length, Result, is_ok, ◌==◌, nat_le, nat_lt}
+use Rattle.sheet.specs.Checks.{Check, first_fit, fault_notice}
 use Rattle.sheet.specs.declared.notices.Layer.TheVariants.{Offer}
 use Rattle.sheet.specs.declared.rows.Point.{Point}
 use Rattle.sheet.specs.declared.rows.Face.{Face}
@@ -8,17 +8,19 @@ use Rattle.sheet.specs.declared.drafts.Draft.{Draft}
 use Rattle.motion.specs.declared.shapes.Shape.{Shape}
 use Rattle.inspection.specs.declared.classes.Tally.{Tally}
 use Rattle.inspection.specs.declared.faults.OfferFault.{OfferFault}
-use Rattle.inspection.specs.Faults.{notice_at, notice_of_offer}
+use Rattle.inspection.specs.declared.kinds.ListKind.TheVariants.{Vf, Ee}
+use Rattle.inspection.specs.Faults.{refuses, notice_of_offer}
+use Rattle.inspection.specs.Tallies.{tally_in}
 use Rattle.inspection.specs.Offerings.{Offering, Faces}
 use Rattle.inspection.specs.Sheets.{Sheet, sheet_in, face_at}
 use Rattle.inspection.specs.Tests.{Naming, vf_naming, ee_naming}
-use Rattle.inspection.specs.Lists.{Contents, filled}
-use Rattle.inspection.specs.Classes.{Judge, judging, listed_after, counted_after}
-use Rattle.inspection.specs.States.{State, tally_of}
+use Rattle.inspection.specs.Lists.{Contents, with_entries}
+use Rattle.inspection.specs.Classes.{rules_at, entries_after, tally_after}
+use Rattle.inspection.specs.States.{State}
 
 -- a table is shorter than its count
-abbrev pub short : Draft → List Point → List Face → Bool
-short d ps fs = nat_lt (length ps) d.points || nat_lt (length fs) d.faces
+abbrev pub lacks_rows : Draft → List Point → List Face → Bool
+lacks_rows d ps fs = nat_lt (length ps) d.points || nat_lt (length fs) d.faces
 
 -- each corner is one of so many points
 abbrev pub corners_below : ℕ → Face → Bool
@@ -29,62 +31,58 @@ offer_limit = 1000000
 
 -- ---- the tests of one kind of what is offered, judged by a set at depth d
 module _ {E : Type 0} (n : Naming E) (set : Shape → Bool) (d : ℕ) (s : Sheet) (o : Offering) where
-  abbrev pub judge : Judge E
-  judge = judging n n.same set d s
+  -- the entries and the tally after them
+  abbrev pub entries_by : List E → List E
+  entries_by es = entries_after (rules_at n set d s) es (n.tests s o)
 
-  -- the entries and the counts after them
-  abbrev pub entries_after : List E → List E
-  entries_after es = listed_after judge es (n.tests s o)
-
-  abbrev pub tally_after : List E → Tally → Tally
-  tally_after es t = counted_after judge es (n.tests s o) t
+  abbrev pub tally_by : List E → Tally → Tally
+  tally_by es t = tally_after (rules_at n set d s) es (n.tests s o) t
 
   -- fewer free places than new entries
   abbrev pub lacks_room : Contents E → Bool
-  lacks_room h = nat_lt (length h.rest) (length (entries_after h.entries) - length h.entries)
+  lacks_room h = nat_lt (length h.rest) (length (entries_by h.entries) - length h.entries)
 
 -- ---- the checks
-abbrev pub refuses : Bool → ℕ → ℕ → Check
-refuses b number place = record { fits = b; tells = notice_at number Offer place }
-
 -- all but the last
-abbrev pub pair_checks : Draft → List Point → List Face → ℕ → ℕ → ℕ → List Check
-pair_checks d ps fs f g accepted =
-    refuses (short d ps fs) 16 0 ∷ refuses (nat_le d.faces f) 17 f ∷ refuses (nat_le d.faces g) 17 g ∷ refuses (f == g) 18 f
-    ∷ refuses (not (corners_below d.points (face_at (sheet_in d ps fs) f))) 19 f
-    ∷ refuses (not (corners_below d.points (face_at (sheet_in d ps fs) g))) 19 g
-    ∷ refuses (nat_le offer_limit accepted) 20 0 ∷ []
-
--- those of what is offered
-abbrev pub row_checks : Draft → List Point → List Face → Offering → ℕ → List Check
-row_checks d ps fs (Faces f g) accepted = pair_checks d ps fs f g accepted
+abbrev pub checks_but_room : Draft → List Point → List Face → Offering → ℕ → List Check
+checks_but_room d ps fs (Faces f g) accepted =
+    refuses Offer (lacks_rows d ps fs) 16 0 ∷ refuses Offer (nat_le d.faces f) 17 f
+    ∷ refuses Offer (nat_le d.faces g) 17 g ∷ refuses Offer (f == g) 18 f
+    ∷ refuses Offer (not (corners_below d.points (face_at (sheet_in d ps fs) f))) 19 f
+    ∷ refuses Offer (not (corners_below d.points (face_at (sheet_in d ps fs) g))) 19 g
+    ∷ refuses Offer (nat_le offer_limit accepted) 20 0 ∷ []
 
 abbrev pub room_check : (Shape → Bool) → Sheet → Offering → State → Check
 room_check set s o st =
-    refuses (lacks_room vf_naming set st.core.depth s o st.vf || lacks_room ee_naming set st.core.depth s o st.ee) 21 0
+    let d = st.core.depth in
+    let full = lacks_room vf_naming set d s o st.vf || lacks_room ee_naming set d s o st.ee in
+    refuses Offer full 21 0
 
 abbrev pub offer_checks : (Shape → Bool) → List Point → List Face → Offering → State → List Check
 offer_checks set ps fs o st =
-    row_checks st.core.draft ps fs o st.core.accepted ++ (room_check set (sheet_in st.core.draft ps fs) o st ∷ [])
+    checks_but_room st.core.draft ps fs o st.core.accepted
+    ++ (room_check set (sheet_in st.core.draft ps fs) o st ∷ [])
 
--- ---- an accepted offer
-abbrev pub taken : (Shape → Bool) → Sheet → Offering → State → State
-taken set s o st =
+-- ---- what an accepted offer leaves
+abbrev pub state_after : (Shape → Bool) → Sheet → Offering → State → State
+state_after set s o st =
     let d = st.core.depth in
     record {
       core = record {
         draft = st.core.draft;
         depth = d;
         tallies =
-            tally_after vf_naming set d s o st.vf.entries (tally_of 0 st.core)
-            ∷ (tally_after ee_naming set d s o st.ee.entries (tally_of 1 st.core) ∷ []);
+            tally_by vf_naming set d s o st.vf.entries (tally_in Vf st.core.tallies)
+            ∷ (tally_by ee_naming set d s o st.ee.entries (tally_in Ee st.core.tallies) ∷ []);
         accepted = st.core.accepted + 1;
       };
-      vf = filled (entries_after vf_naming set d s o st.vf.entries) st.vf;
-      ee = filled (entries_after ee_naming set d s o st.ee.entries) st.ee;
+      vf = with_entries (entries_by vf_naming set d s o st.vf.entries) st.vf;
+      ee = with_entries (entries_by ee_naming set d s o st.ee.entries) st.ee;
     }
 
--- an offer by a filter's set and these tables answers r in the state s, and leaves t
-pub record Offered (set : Shape → Bool) (ps : List Point) (fs : List Face) (o : Offering) (s : State) (r : Result (Unit {0}) OfferFault) (t : State) : Type 0 where
-  pub answer : told notice_of_offer r ≡ answer (offer_checks set ps fs o s) tt
-  pub state : t ≡ cond (is_ok r) (taken set (sheet_in s.core.draft ps fs) o s) s
+-- offered to a filter's set over these tables, in the state s: r is answered, and t left
+pub record OfferStep
+    (set : Shape → Bool) (ps : List Point) (fs : List Face) (o : Offering)
+    (s : State) (r : Result (Unit {0}) OfferFault) (t : State) : Type 0 where
+  pub fault : fault_notice notice_of_offer r ≡ first_fit (offer_checks set ps fs o s)
+  pub state : t ≡ (if is_ok r then state_after set (sheet_in s.core.draft ps fs) o s else s)

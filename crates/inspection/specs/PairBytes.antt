@@ -1,4 +1,4 @@
--- Pairs of faces in bytes: two numbers of two bytes each, the lower byte first; a rest of under four bytes is skipped.
+-- Pairs of faces in bytes: two numbers of two bytes each, the lower byte first.
 use Rattle.std.specs.Prelude.{ℕ, ◌+◌, ◌*◌, List, [], ◌∷◌}
 use Rattle.inspection.specs.declared.requests.Request.{Request}
 use Rattle.inspection.specs.declared.requests.Request.TheVariants.{Offer}
@@ -6,6 +6,7 @@ use Rattle.inspection.specs.declared.requests.Request.TheVariants.{Offer}
 abbrev pub number_of : ℕ → ℕ → ℕ
 number_of low high = low + 256 * high
 
+-- a rest of under four bytes is skipped
 abbrev pub offers_in : List ℕ → List Request
 offers_in (a ∷ b ∷ c ∷ d ∷ rest) = Offer (number_of a b) (number_of c d) ∷ offers_in rest
 offers_in bytes = []

@@ -9,9 +9,10 @@ use Rattle.inspection.specs.Names.{edge_of, ee_name_of}
 -- each corner of a face against the face with this number
 abbrev pub corners_against : Face → ℕ → List VfName
 corners_against f n =
-    record { point = f.a; face = n } ∷ record { point = f.b; face = n } ∷ record { point = f.c; face = n } ∷ []
+    record { point = f.a; face = n } ∷ record { point = f.b; face = n }
+    ∷ record { point = f.c; face = n } ∷ []
 
--- of the faces with the numbers m and n: the corners of the first against the second, then of the second against the first
+-- the corners of f against g, then those of g against f; m and n are their numbers
 abbrev pub vf_tests : ℕ → Face → ℕ → Face → List VfName
 vf_tests m f n g = corners_against f n ++ corners_against g m
 

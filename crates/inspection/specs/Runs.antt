@@ -1,6 +1,6 @@
 -- What a run of an inspection is: from an opening on, any calls, refused ones included.
-use Rattle.std.specs.Prelude.{◌≡◌, ℕ, ◌≤◌, Bool, false, cond, List, [], ◌∷◌, ◌++◌, Result, is_ok, Ok, Err, nat_lt}
-use Rattle.sheet.specs.Checks.{Check, answer, told}
+use Rattle.std.specs.Prelude.{◌≡◌, ℕ, ◌≤◌, Bool, false, if◌then◌else◌, List, [], ◌∷◌, ◌++◌, Result, is_ok, Ok, Err, nat_lt}
+use Rattle.sheet.specs.Checks.{Check, first_fit, fault_notice}
 use Rattle.sheet.specs.declared.notices.Layer.TheVariants.{Opening}
 use Rattle.sheet.specs.declared.rows.Point.{Point}
 use Rattle.sheet.specs.declared.rows.Face.{Face}
@@ -8,26 +8,28 @@ use Rattle.sheet.specs.declared.drafts.Draft.{Draft}
 use Rattle.motion.specs.declared.shapes.Shape.{Shape}
 use Rattle.inspection.specs.declared.faults.OpeningFault.{OpeningFault}
 use Rattle.inspection.specs.declared.faults.OfferFault.{OfferFault}
-use Rattle.inspection.specs.Faults.{notice_at, notice_of_opening}
+use Rattle.inspection.specs.Faults.{refuses, notice_of_opening}
 use Rattle.inspection.specs.Offerings.{Offering}
 use Rattle.inspection.specs.Sheets.{Sheet, sheet_in}
-use Rattle.inspection.specs.States.{Core, State, fresh, at_depth}
-use Rattle.inspection.specs.Offers.{short, Offered}
+use Rattle.inspection.specs.States.{Core, State, core_at_start, with_depth}
+use Rattle.inspection.specs.Offers.{lacks_rows, OfferStep}
 
 -- ---- openings, and depths set later
 abbrev pub depth_checks : ℕ → List Check
-depth_checks k = record { fits = nat_lt 6 k; tells = notice_at 15 Opening k } ∷ []
+depth_checks k = refuses Opening (nat_lt 6 k) 15 k ∷ []
 
 -- of this draft, at a depth that is not refused, with emptied lists
 pub record Opened (d : Draft) (s : State) : Type 0 where
   pub depth : s.core.depth ≤ 6
-  pub core : s.core ≡ fresh d s.core.depth
+  pub core : s.core ≡ core_at_start d s.core.depth
   pub vf : s.vf.entries ≡ []
   pub ee : s.ee.entries ≡ []
 
-pub record DepthSet (k : ℕ) (c : Core) (r : Result (Unit {0}) OpeningFault) (d : Core) : Type 0 where
-  pub answer : told notice_of_opening r ≡ answer (depth_checks k) tt
-  pub core : d ≡ cond (is_ok r) (at_depth k c) c
+-- the depth k is set, in c: r is answered, and d left
+pub record DepthStep
+    (k : ℕ) (c : Core) (r : Result (Unit {0}) OpeningFault) (d : Core) : Type 0 where
+  pub fault : fault_notice notice_of_opening r ≡ first_fit (depth_checks k)
+  pub core : d ≡ (if is_ok r then with_depth k c else c)
 
 -- ---- runs
 -- an accepted offer, with the depth then set
@@ -35,22 +37,31 @@ pub record Accepted : Type 0 where
   pub what : Offering
   pub depth : ℕ
 
-abbrev pub history_after : List Accepted → Offering → ℕ → Result (Unit {0}) OfferFault → List Accepted
+abbrev pub history_after : List Accepted → Offering → ℕ → Result (Unit {0}) OfferFault
+    → List Accepted
 history_after h o d (Ok u) = h ++ (record { what = o; depth = d } ∷ [])
 history_after h o d (Err e) = h
 
--- these tables hold the sheet, as far as its counts go; where one is too short they need agree with nothing
+-- these tables hold the sheet, as far as its counts go
+-- where one is too short they need agree with nothing
 abbrev pub Brings : Draft → List Point → List Face → Sheet → Type 0
-Brings d ps fs s = short d ps fs ≡ false → sheet_in d ps fs ≡ s
+Brings d ps fs s = lacks_rows d ps fs ≡ false → sheet_in d ps fs ≡ s
 
--- runs of an inspection of this draft with a filter of this set over this sheet, by their accepted offers and the state that they end in
-pub data Run (set : Shape → Bool) (d : Draft) (sheet : Sheet) : List Accepted → State → Type 0 where
+-- runs of an inspection of this draft, with a filter of this set, over this sheet
+-- by their accepted offers, and the state that they end in
+pub data Run (set : Shape → Bool) (d : Draft) (sheet : Sheet)
+    : List Accepted → State → Type 0 where
   opened : {s : State} → Opened d s → Run set d sheet [] s
   -- the depth is set, or that is refused
-  depth_set : {h : List Accepted} {s : State} (k : ℕ) (r : Result (Unit {0}) OpeningFault) (t : State)
-      → Run set d sheet h s → DepthSet k s.core r t.core → t.vf ≡ s.vf → t.ee ≡ s.ee → Run set d sheet h t
+  depth_set : {h : List Accepted} {s : State}
+      (k : ℕ) (r : Result (Unit {0}) OpeningFault) (t : State)
+      → Run set d sheet h s → DepthStep k s.core r t.core → t.vf ≡ s.vf → t.ee ≡ s.ee
+      → Run set d sheet h t
   -- something is offered, over tables that bring the sheet; it is accepted or refused
-  offered : {h : List Accepted} {s : State} (ps : List Point) (fs : List Face) (o : Offering) (r : Result (Unit {0}) OfferFault) (h' : List Accepted) (t : State)
-      → Run set d sheet h s → Brings d ps fs sheet → Offered set ps fs o s r t → h' ≡ history_after h o s.core.depth r → Run set d sheet h' t
+  offered : {h : List Accepted} {s : State} (ps : List Point) (fs : List Face) (o : Offering)
+      (r : Result (Unit {0}) OfferFault) (h' : List Accepted) (t : State)
+      → Run set d sheet h s → Brings d ps fs sheet → OfferStep set ps fs o s r t
+      → h' ≡ history_after h o s.core.depth r → Run set d sheet h' t
   -- a question: any call that leaves all of this as it was
-  asked : {h : List Accepted} {s : State} (t : State) → Run set d sheet h s → t ≡ s → Run set d sheet h t
+  asked : {h : List Accepted} {s : State} (t : State)
+      → Run set d sheet h s → t ≡ s → Run set d sheet h t

@@ -28,8 +28,9 @@ sheet_of ps fs = record { points = map moving_of ps; faces = fs }
 abbrev pub sheet_in : Draft → List Point → List Face → Sheet
 sheet_in d ps fs = sheet_of (take d.points ps) (take d.faces fs)
 
-abbrev pub seen : Rows → Sheet
-seen r = sheet_of r.points.now r.faces.now
+-- the sheet that these rows are
+abbrev pub sheet_of_rows : Rows → Sheet
+sheet_of_rows r = sheet_of r.points.now r.faces.now
 
 -- past the end of a table: never asked for
 abbrev pub origin : Coords

@@ -5,7 +5,7 @@ use Rattle.motion.specs.declared.shapes.Kind.TheVariants.{Vf, Ee}
 use Rattle.motion.specs.declared.shapes.Shape.{Shape}
 use Rattle.inspection.specs.declared.names.VfName.{VfName}
 use Rattle.inspection.specs.declared.names.EeName.{EeName}
-use Rattle.inspection.specs.Names.{corner, ee_shared, vf_same, ee_same}
+use Rattle.inspection.specs.Names.{is_corner, ee_shared, vf_same, ee_same}
 use Rattle.inspection.specs.Pairs.{vf_tests, ee_tests}
 use Rattle.inspection.specs.Offerings.{Offering, Faces}
 use Rattle.inspection.specs.Sheets.{Sheet, point_at, face_at}
@@ -23,22 +23,33 @@ vf_shape s n =
     }
 
 abbrev pub ee_shape : Sheet → EeName → Shape
-ee_shape s n = record { kind = Ee; p = point_at s n.l; a = point_at s n.k; b = point_at s n.u; c = point_at s n.v; scale = 0 }
+ee_shape s n =
+    record {
+      kind = Ee;
+      p = point_at s n.l;
+      a = point_at s n.k;
+      b = point_at s n.u;
+      c = point_at s n.v;
+      scale = 0;
+    }
 
 abbrev pub vf_shared : Sheet → VfName → Bool
-vf_shared s n = corner n.point (face_at s n.face)
+vf_shared s n = is_corner n.point (face_at s n.face)
 
 -- ---- numbers of the sheet
 abbrev pub corners_inside : Sheet → Face → Bool
-corners_inside s f = nat_lt f.a (length s.points) && nat_lt f.b (length s.points) && nat_lt f.c (length s.points)
+corners_inside s f =
+    let n = length s.points in nat_lt f.a n && nat_lt f.b n && nat_lt f.c n
 
 -- its point, its face number and the corners of that face
 abbrev pub vf_inside : Sheet → VfName → Bool
-vf_inside s n = nat_lt n.point (length s.points) && nat_lt n.face (length s.faces) && corners_inside s (face_at s n.face)
+vf_inside s n =
+    nat_lt n.point (length s.points) && nat_lt n.face (length s.faces)
+    && corners_inside s (face_at s n.face)
 
 abbrev pub ee_inside : Sheet → EeName → Bool
-ee_inside s n =
-    nat_lt n.u (length s.points) && nat_lt n.v (length s.points) && nat_lt n.k (length s.points) && nat_lt n.l (length s.points)
+ee_inside s e =
+    let n = length s.points in nat_lt e.u n && nat_lt e.v n && nat_lt e.k n && nat_lt e.l n
 
 -- ---- the two kinds of tests, by their names
 pub record Naming (E : Type 0) : Type 0 where

@@ -1,41 +1,44 @@
 -- The window of an entry: its checks, in their order, and its answer where none fits.
-use Rattle.std.specs.Prelude.{◌≡◌, ℕ, Bool, false, not, List, [], ◌∷◌, length, Some, None, Option, Result, nat_le, slice_get}
-use Rattle.sheet.specs.Checks.{Check, answer, told}
+use Rattle.std.specs.Prelude.{◌≡◌, ℕ, Bool, false, not, List, [], ◌∷◌, length, Some, None, Option, Result, IfOk, nat_le, slice_get}
+use Rattle.sheet.specs.Checks.{Check, first_fit, fault_notice}
 use Rattle.sheet.specs.declared.notices.Layer.TheVariants.{Window}
 use Rattle.sheet.specs.declared.rows.Point.{Point}
 use Rattle.sheet.specs.declared.rows.Face.{Face}
 use Rattle.motion.specs.declared.shapes.Shape.{Shape}
 use Rattle.motion.specs.Depths.{window_at}
 use Rattle.inspection.specs.declared.faults.WindowFault.{WindowFault}
-use Rattle.inspection.specs.Faults.{notice_at, notice_of_window}
+use Rattle.inspection.specs.Faults.{refuses, notice_of_window}
 use Rattle.inspection.specs.Sheets.{Sheet, sheet_in}
 use Rattle.inspection.specs.Tests.{Naming}
 use Rattle.inspection.specs.Lists.{Contents}
 use Rattle.inspection.specs.States.{Core}
-use Rattle.inspection.specs.Offers.{short}
-
-abbrev pub asks : Bool → ℕ → ℕ → Check
-asks b number place = record { fits = b; tells = notice_at number Window place }
+use Rattle.inspection.specs.Offers.{lacks_rows}
 
 -- an entry has a number that is not of the sheet
-abbrev pub strays : {E : Type 0} → (E → Bool) → Option E → Bool
-strays inside None = false
-strays inside (Some e) = not (inside e)
+abbrev pub is_stray : {E : Type 0} → (E → Bool) → Option E → Bool
+is_stray inside None = false
+is_stray inside (Some e) = not (inside e)
 
-abbrev pub window_of : {E : Type 0} → (Shape → Bool) → ℕ → (E → Shape) → Option E → Option (ℕ × ℕ)
+abbrev pub window_of : {E : Type 0}
+    → (Shape → Bool) → ℕ → (E → Shape) → Option E → Option (ℕ × ℕ)
 window_of set d shape None = None
 window_of set d shape (Some e) = window_at set d (shape e)
 
 -- of the entry i of a list: what its numbers have to be, and the test that it names
-module _ {E : Type 0} (n : Naming E) (ps : List Point) (fs : List Face) (c : Core) (h : Contents E) (i : ℕ) where
+module _
+    {E : Type 0} (n : Naming E) (ps : List Point) (fs : List Face)
+    (c : Core) (h : Contents E) (i : ℕ) where
   abbrev sheet : Sheet
   sheet = sheet_in c.draft ps fs
 
   abbrev pub window_checks : List Check
   window_checks =
-      asks (short c.draft ps fs) 16 0 ∷ asks (nat_le (length h.entries) i) 22 i
-      ∷ asks (strays (n.inside sheet) (slice_get h.entries i)) 19 i ∷ []
+      refuses Window (lacks_rows c.draft ps fs) 16 0
+      ∷ refuses Window (nat_le (length h.entries) i) 22 i
+      ∷ refuses Window (is_stray (n.inside sheet) (slice_get h.entries i)) 19 i ∷ []
 
-  -- the window at the depth now set answers r
-  abbrev pub Windowed : (Shape → Bool) → Result (Option (ℕ × ℕ)) WindowFault → Type 0
-  Windowed set r = told notice_of_window r ≡ answer window_checks (window_of set c.depth (n.shape sheet) (slice_get h.entries i))
+  -- of a filter's set at the depth now set
+  pub record WindowAnswer (set : Shape → Bool) (r : Result (Option (ℕ × ℕ)) WindowFault)
+      : Type 0 where
+    pub fault : fault_notice notice_of_window r ≡ first_fit window_checks
+    pub value : IfOk r (λ w. w ≡ window_of set c.depth (n.shape sheet) (slice_get h.entries i))

@@ -1,7 +1,6 @@
 // The classes of tests, and their counts.
 ghost use Rattle.std.specs.Prelude.{◌≡◌, ◌+◌, ◌^◌, ◌<◌};
-ghost use Rattle.inspection.specs.Totals.{no_tests, total};
-ghost use Rattle.inspection.specs.Classes.{counted, together};
+ghost use Rattle.inspection.specs.Tallies.{no_tests, total, with_one_more, sum_of};
 
 /// What became of a test of an offer: the first of shared, struck, repeated and kept that fits.
 #[derive(Clone, Copy)]
@@ -43,7 +42,7 @@ impl Tally {
     /// One more of a class.
     pub(crate) fn count(&mut self, class: Class)
         requires { total self.old < 2 ^ 31 }
-        ensures { self.new ≡ counted class self.old }
+        ensures { self.new ≡ with_one_more class self.old }
     {
         match class {
             Class::Kept => self.kept += 1,
@@ -56,7 +55,7 @@ impl Tally {
     /// As many more of each class.
     pub(crate) fn add(&mut self, more: Tally)
         requires { total self.old + total more < 2 ^ 31 }
-        ensures { self.new ≡ together self.old more }
+        ensures { self.new ≡ sum_of self.old more }
     {
         self.kept += more.kept;
         self.struck += more.struck;

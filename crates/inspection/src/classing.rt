@@ -1,8 +1,10 @@
 // The class of each test of an offer.
-ghost use Rattle.std.specs.Prelude.{◌≤◌};
+ghost use Rattle.std.specs.Prelude.{◌≡◌, ◌+◌, ◌≤◌, ◌<◌};
+ghost use Rattle.arrayvec.specs.ArrayVec.{array_vec_len};
+ghost use Rattle.inspection.specs.Classes.{entries_with};
 
-use crate::among::{add, is_among};
 use crate::classes::{Class, Tally};
+use crate::entries::is_among;
 use crate::sheets::Rows;
 use crate::tests::TestName;
 use arrayvec::ArrayVec;
@@ -18,16 +20,14 @@ pub(crate) struct Judge<'a, F> {
 }
 
 impl<'a, F: Filter> Judge<'a, F> {
-    ghost use Rattle.std.specs.Prelude.{◌≡◌, ◌++◌, length};
-    ghost use Rattle.motion.specs.Depths.{struck_at};
-    ghost use Rattle.inspection.specs.Totals.{no_tests, total};
-    ghost use Rattle.inspection.specs.Sheets.{seen};
-    ghost use Rattle.inspection.specs.Classes.{class_of, listed_after, counted_after};
-    ghost use Rattle.inspection.specs.Judges.{judge_of};
+    ghost use Rattle.std.specs.Prelude.{◌++◌, length};
+    ghost use Rattle.inspection.specs.Tallies.{no_tests, total};
+    ghost use Rattle.inspection.specs.Classes.{class_of, entries_after, tally_after};
+    ghost use Rattle.inspection.specs.Judges.{rules_of};
 
     /// Whether the filter strikes a test of the sheet at the depth.
     fn strikes<E: TestName>(&self, e: E) -> bool
-        ensures { result ≡ struck_at (F.struck self.now.filter.now) self.now.depth ((E.naming).shape (seen self.now.rows) e) }
+        ensures { result ≡ (rules_of F.struck E.naming E.same self.now).struck e }
     {
         let test = e.test(self.rows);
         let Some(struck) = struck_at(self.filter, &test, self.depth) else {
@@ -36,9 +36,10 @@ impl<'a, F: Filter> Judge<'a, F> {
         struck
     }
 
-    /// The class of a test: `old` are the entries of the list, `new` those that the offer adds to it so far.
+    /// The class of a test: `old` are the list's entries, `new` those that the offer adds so far.
     fn class_of<E: TestName>(&self, e: E, old: &[E], new: &[E]) -> Class
-        ensures { result ≡ class_of (judge_of F.struck E.naming E.same self.now) (old.now ++ new.now) e }
+        ensures { let rules = rules_of F.struck E.naming E.same self.now in
+            result ≡ class_of rules (old.now ++ new.now) e }
     {
         if e.is_shared(self.rows) {
             return Class::Shared;
@@ -52,7 +53,8 @@ impl<'a, F: Filter> Judge<'a, F> {
         Class::Kept
     }
 
-    /// Classes all tests of one kind of an offer: the entries that the offer adds, and how many tests there are of each class.
+    /// Classes all tests of one kind of an offer: the entries that it adds, and how many there are
+    /// of each class.
     pub(crate) fn class_all<E: TestName + Default, const N: usize>(
         &self,
         tests: &[E],
@@ -60,8 +62,10 @@ impl<'a, F: Filter> Judge<'a, F> {
     ) -> (ArrayVec<E, N>, Tally)
         requires room { length tests.now ≤ N }
         requires few { length tests.now ≤ 9 }
-        ensures listed { old.now ++ result.0.items ≡ listed_after (judge_of F.struck E.naming E.same self.now) old.now tests.now }
-        ensures tally { result.1 ≡ counted_after (judge_of F.struck E.naming E.same self.now) old.now tests.now no_tests }
+        ensures entries { let rules = rules_of F.struck E.naming E.same self.now in
+            old.now ++ result.0.items ≡ entries_after rules old.now tests.now }
+        ensures tally { let rules = rules_of F.struck E.naming E.same self.now in
+            result.1 ≡ tally_after rules old.now tests.now no_tests }
         ensures total { total result.1 ≡ length tests.now }
     {
         let mut new = ArrayVec::new();
@@ -69,8 +73,19 @@ impl<'a, F: Filter> Judge<'a, F> {
         for e in tests {
             let class = self.class_of(*e, old, new.as_slice());
             tally.count(class);
-            add(&mut new, class, *e);
+            push_kept(&mut new, class, *e);
         }
         (new, tally)
+    }
+}
+
+/// Adds a test to the new entries where it is kept.
+fn push_kept<E: Copy, const N: usize>(new: &mut ArrayVec<E, N>, class: Class, e: E)
+    requires { array_vec_len new.old < N }
+    ensures items { new.new.items ≡ entries_with class new.old.items e }
+    ensures len { array_vec_len new.new ≤ array_vec_len new.old + 1 }
+{
+    if let Class::Kept = class {
+        new.push(e);
     }
 }

@@ -1,6 +1,8 @@
-// `Inspection` alone: no file with a ghost field may import what speaks of the struct. What it does stands in inspections/.
-ghost use Rattle.std.specs.Prelude.{◌≡◌, ◌*◌, ◌≤◌, slice_index_or};
-ghost use Rattle.inspection.specs.Totals.{total, no_tests};
+// `Inspection` alone, since no file with a ghost field may import what speaks of the struct.
+// What it does stands in inspections/.
+ghost use Rattle.std.specs.Prelude.{◌≡◌, ◌*◌, ◌≤◌};
+ghost use Rattle.inspection.specs.Tallies.{total, tally_in};
+ghost use Rattle.inspection.specs.declared.kinds.ListKind.TheVariants.{Vf, Ee};
 
 use crate::classes::Tally;
 use sheet::Draft;
@@ -16,17 +18,18 @@ pub use closing::Closed;
 pub use opening::Refused;
 pub use working::{Worked, inspect};
 
-/// An inspection of a sheet's step. It holds the draft, so that there is no other of the sheet while it is open.
+/// An inspection of a sheet's step. It holds the draft, so that there is no other of the sheet
+/// while it is open.
 #[derive(Drop)]
 pub struct Inspection<F> {
     draft: Draft,
     filter: F,
     depth: u8,
-    // of the VF tests, and of the EE tests
+    // one for each `ListKind`
     tallies: [Tally; 2],
     accepted: u32,
     ghost depths: { depth ≤ 6 },
     ghost offers: { accepted ≤ 1000000 },
-    ghost vf_classes: { total (slice_index_or tallies 0 no_tests) ≡ 6 * accepted },
-    ghost ee_classes: { total (slice_index_or tallies 1 no_tests) ≡ 9 * accepted },
+    ghost vf_classes: { total (tally_in Vf tallies) ≡ 6 * accepted },
+    ghost ee_classes: { total (tally_in Ee tallies) ≡ 9 * accepted },
 }

@@ -1,12 +1,13 @@
-//! An inspection of one step of a sheet: the names of its tests, the lists that they stand on, the counts of their classes.
+//! An inspection of one step of a sheet: the names of its tests, the lists that they stand on, the
+//! counts of their classes.
 #![tactic(auto)]
 
-mod among;
 mod classes;
 mod classing;
 mod entries;
 mod faults;
 mod inspections;
+mod kinds;
 mod lists;
 mod names;
 mod offers;
@@ -20,6 +21,7 @@ pub use classes::{Class, Counts, Tally};
 pub use entries::Entry;
 pub use faults::{OfferFault, OpeningFault, WindowFault};
 pub use inspections::{Closed, Inspection, Refused, Worked, inspect};
+pub use kinds::ListKind;
 pub use lists::List;
 pub use names::{EeName, VfName};
 pub use pair_bytes::offers_in;

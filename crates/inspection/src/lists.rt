@@ -1,7 +1,7 @@
 // Entries in the front of a table that the caller lends.
 ghost use Rattle.std.specs.Prelude.{◌≤◌, length};
 
-use crate::entries::Entry;
+use crate::entries::{Entry, is_among};
 
 #[derive(Drop)]
 pub struct List<'a, E> {
@@ -12,11 +12,12 @@ pub struct List<'a, E> {
 
 impl<'a, E: Entry> List<'a, E> {
     ghost use Rattle.std.specs.Prelude.{◌≡◌, ◌+◌, ◌++◌, ◌==◌, [], slice_get};
-    ghost use Rattle.inspection.specs.Lists.{contents_of, entries, has, filled, emptied};
+    ghost use Rattle.inspection.specs.Lists.{contents_of, entries, has, with_entries, without_entries};
 
     /// An empty list over a table.
     pub fn new(places: &'a mut [E]) -> List<'a, E>
-        ensures { contents_of result ≡ record { entries = []; rest = places.old; lender = places.entry.ghost_name } }
+        ensures { contents_of result
+            ≡ record { entries = []; rest = places.old; lender = places.entry.ghost_name } }
     {
         List { places, len: 0 }
     }
@@ -59,12 +60,12 @@ impl<'a, E: Entry> List<'a, E> {
     pub fn holds(&self, e: &E) -> bool
         ensures { result ≡ has E.same e.now (entries self.now) }
     {
-        self.entries().iter().any(|x| e.is_same(x))
+        is_among(e, self.entries())
     }
 
     /// No entries; the table is as it was.
     pub(crate) fn clear(&mut self)
-        ensures { contents_of self.new ≡ emptied (contents_of self.old) }
+        ensures { contents_of self.new ≡ without_entries (contents_of self.old) }
     {
         self.len = 0;
     }
@@ -72,7 +73,8 @@ impl<'a, E: Entry> List<'a, E> {
     /// Puts entries behind those that stand here.
     pub(crate) fn extend(&mut self, new: &[E])
         requires { length new.now ≤ length (contents_of self.old).rest }
-        ensures { contents_of self.new ≡ filled (entries self.old ++ new.now) (contents_of self.old) }
+        ensures { contents_of self.new
+            ≡ with_entries (entries self.old ++ new.now) (contents_of self.old) }
     {
         let end = self.len + new.len();
         self.places[self.len..end].copy_from_slice(new);

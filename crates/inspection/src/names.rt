@@ -1,7 +1,7 @@
 // The names of tests.
 ghost use Rattle.std.specs.Prelude.{◌≡◌};
-ghost use Rattle.inspection.specs.Names.{edge_of, ee_name_of, meet, ee_shared, corner, vf_same, ee_same};
-ghost use Rattle.std.proofs.Common.{rules};
+ghost use Rattle.std.proofs.lemmas.Cmp.{nat_eq_equiv, on_equiv, and_equiv};
+ghost use Rattle.inspection.specs.Names.{edge_of, ee_name_of, name_in_order, ee_shared, is_corner, vf_same, ee_same};
 
 use crate::entries::Entry;
 use sheet::Face;
@@ -25,11 +25,8 @@ pub struct EeName {
 impl Entry for VfName {
     ghost same = { vf_same };
 
-    ghost itself = { Prim.search rules };
-
-    ghost mirrored = { Prim.search rules };
-
-    ghost chained = { Prim.search rules };
+    ghost equivalence = { and_equiv
+        (on_equiv (λ e. e.point) nat_eq_equiv) (on_equiv (λ e. e.face) nat_eq_equiv) };
 
     fn is_same(&self, other: &VfName) -> bool {
         self.point == other.point && self.face == other.face
@@ -39,11 +36,11 @@ impl Entry for VfName {
 impl Entry for EeName {
     ghost same = { ee_same };
 
-    ghost itself = { Prim.search rules };
-
-    ghost mirrored = { Prim.search rules };
-
-    ghost chained = { Prim.search rules };
+    ghost equivalence = { and_equiv
+        (and_equiv
+        (and_equiv (on_equiv (λ e. e.u) nat_eq_equiv) (on_equiv (λ e. e.v) nat_eq_equiv))
+        (on_equiv (λ e. e.k) nat_eq_equiv))
+        (on_equiv (λ e. e.l) nat_eq_equiv) };
 
     fn is_same(&self, other: &EeName) -> bool {
         self.u == other.u && self.v == other.v && self.k == other.k && self.l == other.l
@@ -78,14 +75,14 @@ impl Edge {
         ensures { result ≡ ee_name_of self other }
     {
         if other.first < self.first {
-            return named(other, self);
+            return name_in_order(other, self);
         }
-        named(self, other)
+        name_in_order(self, other)
     }
 }
 
-fn named(one: Edge, other: Edge) -> EeName
-    ensures { result ≡ meet one other }
+fn name_in_order(one: Edge, other: Edge) -> EeName
+    ensures { result ≡ name_in_order one other }
 {
     EeName {
         u: one.first,
@@ -106,7 +103,7 @@ impl EeName {
 
 /// Whether the point is a corner of the face.
 pub(crate) fn is_corner(point: u16, face: Face) -> bool
-    ensures { result ≡ corner point face }
+    ensures { result ≡ is_corner point face }
 {
     point == face.a || point == face.b || point == face.c
 }

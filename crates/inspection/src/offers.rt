@@ -1,9 +1,10 @@
 // The checks of an offer.
-ghost use Rattle.std.specs.Prelude.{◌≡◌, ◌<◌, MatchResult};
-ghost use Rattle.sheet.specs.Checks.{first_fit};
+ghost use Rattle.std.specs.Prelude.{◌≡◌, ◌<◌, IfOk};
+ghost use Rattle.sheet.specs.Checks.{first_fit, fault_notice};
 ghost use Rattle.inspection.specs.Faults.{notice_of_offer};
-ghost use Rattle.inspection.specs.Sheets.{seen, sheet_in};
-ghost use Rattle.inspection.specs.Offers.{corners_below, pair_checks};
+ghost use Rattle.inspection.specs.Offerings.{Faces};
+ghost use Rattle.inspection.specs.Sheets.{sheet_of_rows, sheet_in};
+ghost use Rattle.inspection.specs.Offers.{corners_below, checks_but_room};
 
 use crate::faults::OfferFault;
 use crate::sheets::Rows;
@@ -12,7 +13,8 @@ use sheet::{Draft, Face, Point};
 /// An inspection accepts at most a million offers.
 const OFFER_LIMIT: u32 = 1_000_000;
 
-/// Every check of an offer but the last, which is whether the lists have room; the rows of the sheet where none fits.
+/// Makes every check of an offer but the last, which is whether the lists have room. Where none
+/// fits it gives the rows of the sheet.
 pub(crate) fn check_offer<'a>(
     draft: &Draft,
     points: &'a [Point],
@@ -21,10 +23,11 @@ pub(crate) fn check_offer<'a>(
     second: u16,
     accepted: u32,
 ) -> Result<Rows<'a>, OfferFault>
-    ensures { let checks = pair_checks draft.now points.now faces.now first second accepted in
-        MatchResult result
-        (λ r. (first_fit checks ≡ None) × (seen r ≡ sheet_in draft.now points.now faces.now) × (accepted < 1000000))
-        (λ e. first_fit checks ≡ Some (notice_of_offer e)) }
+    ensures fault { let pair = Faces first second in
+        fault_notice notice_of_offer result
+        ≡ first_fit (checks_but_room draft.now points.now faces.now pair accepted) }
+    ensures rows { IfOk result (λ r. sheet_of_rows r ≡ sheet_in draft.now points.now faces.now) }
+    ensures accepted { IfOk result (λ _. accepted < 1000000) }
 {
     let Some(rows) = Rows::of(draft, points, faces) else {
         return Err(OfferFault::TableTooShort);

@@ -5,7 +5,8 @@ ghost use Rattle.inspection.specs.PairBytes.{offers_in};
 use crate::requests::Request;
 use std::alloc::{AllocError, Global};
 
-/// The offers that these bytes hold: two face numbers of two bytes each, the lower byte first. A rest of under four bytes is skipped.
+/// The offers that these bytes hold: two face numbers of two bytes each, the lower byte first. A
+/// rest of under four bytes is skipped.
 pub fn offers_in(alloc: Global, bytes: &[u8]) -> Result<Vec<Request>, AllocError>
     ensures { IfOk result (λ v. v.items ≡ offers_in bytes.now) }
 {

@@ -1,5 +1,6 @@
 // What can be asked of an inspection, and its answers.
 use crate::faults::{OfferFault, OpeningFault, WindowFault};
+use crate::kinds::ListKind;
 
 /// One call of an inspection.
 #[derive(Clone, Copy, Debug, PartialEq, Eq)]
@@ -8,10 +9,8 @@ pub enum Request {
     SetDepth(u8),
     /// Two faces are offered.
     Offer(u16, u16),
-    /// The window of an entry of the VF list.
-    VfWindow(u32),
-    /// The window of an entry of the EE list.
-    EeWindow(u32),
+    /// The window of an entry of one list.
+    Window(ListKind, u32),
 }
 
 /// What the call answered.

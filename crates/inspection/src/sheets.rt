@@ -1,8 +1,8 @@
 // A sheet as it lies in the first rows of the caller's tables.
-ghost use Rattle.std.specs.Prelude.{◌≡◌, true, false, length, MatchOption};
+ghost use Rattle.std.specs.Prelude.{◌≡◌, length, is_none, IfSome};
 ghost use Rattle.motion.specs.Laws.{InReach};
-ghost use Rattle.inspection.specs.Sheets.{place_of, moving_of, sheet_of, sheet_in, seen, point_at, face_at};
-ghost use Rattle.inspection.specs.Offers.{short};
+ghost use Rattle.inspection.specs.Sheets.{place_of, moving_of, sheet_of, sheet_in, sheet_of_rows, point_at, face_at};
+ghost use Rattle.inspection.specs.Offers.{lacks_rows};
 
 use motion::{Moving, V3};
 use sheet::{Coords, Draft, Face, Point, coordinate_of};
@@ -17,7 +17,9 @@ pub struct Rows<'a> {
 impl<'a> Rows<'a> {
     /// The first rows of two tables, as many as the draft counts; none where a table has fewer.
     pub(crate) fn of(draft: &Draft, points: &'a [Point], faces: &'a [Face]) -> Option<Rows<'a>>
-        ensures { MatchOption result (short draft.now points.now faces.now ≡ true) (λ r. (short draft.now points.now faces.now ≡ false) × (seen r ≡ sheet_in draft.now points.now faces.now)) }
+        ensures none { is_none result ≡ lacks_rows draft.now points.now faces.now }
+        ensures rows { IfSome result (λ r.
+            sheet_of_rows r ≡ sheet_in draft.now points.now faces.now) }
     {
         let (m, n) = (draft.points() as usize, draft.faces() as usize);
         if points.len() < m || faces.len() < n {
@@ -31,21 +33,21 @@ impl<'a> Rows<'a> {
 
     /// How many points the sheet has.
     pub(crate) fn points(self) -> usize
-        ensures { result ≡ length (seen self.entry).points }
+        ensures { result ≡ length (sheet_of_rows self.entry).points }
     {
         self.points.len()
     }
 
     /// How many faces the sheet has.
     pub(crate) fn faces(self) -> usize
-        ensures { result ≡ length (seen self.entry).faces }
+        ensures { result ≡ length (sheet_of_rows self.entry).faces }
     {
         self.faces.len()
     }
 
     /// A point, each coordinate as it counts.
     pub(crate) fn point(self, i: u16) -> Moving
-        ensures value { result ≡ point_at (seen self.entry) i }
+        ensures value { result ≡ point_at (sheet_of_rows self.entry) i }
         ensures reach { InReach 0 result }
     {
         if (i as usize) < self.points.len() {
@@ -55,7 +57,7 @@ impl<'a> Rows<'a> {
     }
 
     pub(crate) fn face(self, i: u16) -> Face
-        ensures { result ≡ face_at (seen self.entry) i }
+        ensures { result ≡ face_at (sheet_of_rows self.entry) i }
     {
         if (i as usize) < self.faces.len() {
             return self.faces[i as usize];

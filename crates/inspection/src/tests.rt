@@ -1,7 +1,7 @@
 // The tests that names stand for.
-ghost use Rattle.std.specs.Prelude.{◌≡◌, refl};
+ghost use Rattle.std.specs.Prelude.{◌≡◌};
 ghost use Rattle.motion.specs.Laws.{InReach};
-ghost use Rattle.inspection.specs.Sheets.{Sheet, seen};
+ghost use Rattle.inspection.specs.Sheets.{sheet_of_rows};
 ghost use Rattle.inspection.specs.Tests.{Naming, corners_inside, vf_naming, ee_naming};
 
 use crate::entries::Entry;
@@ -18,23 +18,20 @@ pub trait TestName: Entry {
 
     /// Whether its numbers are of the sheet.
     fn is_inside(self, rows: Rows<'_>) -> bool
-        ensures { result ≡ naming.inside (seen rows.entry) self };
+        ensures { result ≡ naming.inside (sheet_of_rows rows.entry) self };
 
     /// Whether its features have a point in common.
     fn is_shared(self, rows: Rows<'_>) -> bool
-        ensures { result ≡ naming.shared (seen rows.entry) self };
+        ensures { result ≡ naming.shared (sheet_of_rows rows.entry) self };
 
     /// The test that it names.
     fn test(self, rows: Rows<'_>) -> Test
-        ensures { result.shape ≡ naming.shape (seen rows.entry) self };
-
-    ghost unscaled: { (s : Sheet) (x : Self) → (naming.shape s x).scale ≡ 0 };
+        ensures shape { result.shape ≡ naming.shape (sheet_of_rows rows.entry) self }
+        ensures scale { result.shape.scale ≡ 0 };
 }
 
 impl TestName for VfName {
     ghost naming = { vf_naming };
-
-    ghost unscaled = { λ s x. refl };
 
     fn is_inside(self, rows: Rows<'_>) -> bool {
         (self.point as usize) < rows.points()
@@ -59,8 +56,6 @@ impl TestName for VfName {
 impl TestName for EeName {
     ghost naming = { ee_naming };
 
-    ghost unscaled = { λ s x. refl };
-
     fn is_inside(self, rows: Rows<'_>) -> bool {
         let n = rows.points();
         (self.u as usize) < n
@@ -84,7 +79,7 @@ impl TestName for EeName {
 
 /// Whether each corner of the face is a point of the sheet.
 pub(crate) fn are_inside(face: Face, rows: Rows<'_>) -> bool
-    ensures { result ≡ corners_inside (seen rows.entry) face }
+    ensures { result ≡ corners_inside (sheet_of_rows rows.entry) face }
 {
     let n = rows.points();
     (face.a as usize) < n && (face.b as usize) < n && (face.c as usize) < n

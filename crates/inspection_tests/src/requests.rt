@@ -2,17 +2,17 @@
 use crate::plans::{crossing, tally};
 use filters::DELIVERED;
 use inspection::{
-    Answer, EeName, List, OfferFault, OpeningFault, Request, VfName, inspect, offers_in,
+    Answer, EeName, List, ListKind, OfferFault, OpeningFault, Request, VfName, inspect, offers_in,
 };
 use std::test::Fail;
 
 const REQUESTS: [Request; 7] = [
     Request::Offer(0, 1),
     Request::Offer(1, 1),
-    Request::VfWindow(0),
+    Request::Window(ListKind::Vf, 0),
     Request::SetDepth(7),
     Request::SetDepth(6),
-    Request::VfWindow(0),
+    Request::Window(ListKind::Vf, 0),
     Request::Offer(1, 0),
 ];
 

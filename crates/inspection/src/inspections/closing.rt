@@ -1,9 +1,11 @@
 // Closing.
-ghost use Rattle.std.specs.Prelude.{◌≡◌, slice_index_or};
-ghost use Rattle.inspection.specs.Totals.{no_tests};
+ghost use Rattle.std.specs.Prelude.{◌≡◌};
+ghost use Rattle.inspection.specs.Tallies.{tally_in};
+ghost use Rattle.inspection.specs.declared.kinds.ListKind.TheVariants.{Vf, Ee};
 
 use super::Inspection;
 use crate::classes::{Counts, Tally};
+use crate::kinds::ListKind;
 use filters::Filter;
 use sheet::Draft;
 
@@ -39,12 +41,12 @@ impl<F: Filter> Inspection<F> {
 impl<F> Closed<F> {
     /// The eight counts.
     pub fn counts(&self) -> Counts
-        ensures vf { result.vf ≡ slice_index_or self.now.tallies 0 no_tests }
-        ensures ee { result.ee ≡ slice_index_or self.now.tallies 1 no_tests }
+        ensures vf { result.vf ≡ tally_in Vf self.now.tallies }
+        ensures ee { result.ee ≡ tally_in Ee self.now.tallies }
     {
         Counts {
-            vf: self.tallies[0],
-            ee: self.tallies[1],
+            vf: self.tallies[ListKind::Vf as usize],
+            ee: self.tallies[ListKind::Ee as usize],
         }
     }
 

@@ -1,14 +1,15 @@
 // Offering two faces.
 ghost use Rattle.std.specs.Prelude.{◌≡◌, ◌<◌};
-ghost use Rattle.inspection.specs.Totals.{total};
-ghost use Rattle.inspection.specs.States.{core_of, state_of, counting};
+ghost use Rattle.inspection.specs.Tallies.{total};
+ghost use Rattle.inspection.specs.States.{core_of, state_of, with_counts};
 ghost use Rattle.inspection.specs.Offerings.{Faces};
-ghost use Rattle.inspection.specs.Offers.{Offered};
+ghost use Rattle.inspection.specs.Offers.{OfferStep};
 
 use super::Inspection;
 use crate::classes::Tally;
 use crate::classing::Judge;
 use crate::faults::OfferFault;
+use crate::kinds::ListKind;
 use crate::lists::List;
 use crate::names::{EeName, VfName};
 use crate::offers::check_offer;
@@ -17,14 +18,9 @@ use crate::sheets::Rows;
 use filters::Filter;
 use sheet::{Face, Point};
 
-// places of the two tallies
-const VF: usize = 0;
-
-const EE: usize = 1;
-
 impl<F: Filter> Inspection<F> {
-    /// Offers two faces: each of their fifteen tests is classed and counted, and the kept ones are listed.
-    /// A fault leaves all as it was.
+    /// Offers two faces, by their numbers: each of their fifteen tests is classed and counted, and
+    /// the kept ones are listed. A fault leaves all as it was.
     pub fn offer(
         &mut self,
         points: &[Point],
@@ -34,7 +30,9 @@ impl<F: Filter> Inspection<F> {
         first: u16,
         second: u16,
     ) -> Result<(), OfferFault>
-        ensures step { Offered (F.Filter.struck self.old.filter) points.now faces.now (Faces first second) (state_of self.old vf.old ee.old) result (state_of self.new vf.new ee.new) }
+        ensures step { OfferStep (F.Filter.struck self.old.filter) points.now faces.now
+            (Faces first second) (state_of self.old vf.old ee.old) result
+            (state_of self.new vf.new ee.new) }
         ensures filter { self.new.filter ≡ self.old.filter }
     {
         let rows = check_offer(&self.draft, points, faces, first, second, self.accepted)?;
@@ -62,11 +60,11 @@ impl<F: Filter> Inspection<F> {
         requires few { self.old.accepted < 1000000 }
         requires vf { total vf ≡ 6 }
         requires ee { total ee ≡ 9 }
-        ensures core { core_of self.new ≡ counting vf ee (core_of self.old) }
+        ensures core { core_of self.new ≡ with_counts vf ee (core_of self.old) }
         ensures filter { self.new.filter ≡ self.old.filter }
     {
-        self.tallies[VF].add(vf);
-        self.tallies[EE].add(ee);
+        self.tallies[ListKind::Vf as usize].add(vf);
+        self.tallies[ListKind::Ee as usize].add(ee);
         self.accepted += 1;
     }
 }

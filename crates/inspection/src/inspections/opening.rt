@@ -1,11 +1,10 @@
 // Opening, and setting the depth later.
-ghost use Rattle.std.specs.Prelude.{◌≡◌, ◌<◌, is_ok, nat_lt, MatchResult, IfOk, if◌then◌else◌};
-ghost use Rattle.sheet.specs.Checks.{answer, told};
+ghost use Rattle.std.specs.Prelude.{◌≡◌, is_ok, nat_lt, IfOk, IfErr, if◌then◌else◌};
+ghost use Rattle.sheet.specs.Checks.{first_fit, fault_notice};
 ghost use Rattle.inspection.specs.Faults.{notice_of_opening};
-ghost use Rattle.inspection.specs.Lists.{contents_of, emptied};
-ghost use Rattle.inspection.specs.States.{core_of, state_of, fresh};
-ghost use Rattle.inspection.specs.Runs.{depth_checks, Opened, DepthSet};
-ghost use Rattle.inspection.specs.declared.faults.OpeningFault.TheVariants.{TooDeep};
+ghost use Rattle.inspection.specs.Lists.{contents_of, without_entries};
+ghost use Rattle.inspection.specs.States.{core_of, state_of, core_at_start};
+ghost use Rattle.inspection.specs.Runs.{depth_checks, Opened, DepthStep};
 
 use super::Inspection;
 use crate::classes::Tally;
@@ -24,7 +23,8 @@ pub struct Refused<F> {
 }
 
 impl<F: Filter> Inspection<F> {
-    /// Opens an inspection of the draft's sheet: all counts are zero, and both lists are emptied.
+    /// Opens an inspection of the draft's sheet, at a depth from 0 to 6: all counts are zero, and
+    /// both lists are emptied. A refusal hands back the draft and the filter, and leaves the lists.
     pub fn open(
         draft: Draft,
         filter: F,
@@ -32,10 +32,17 @@ impl<F: Filter> Inspection<F> {
         vf: &mut List<'_, VfName>,
         ee: &mut List<'_, EeName>,
     ) -> Result<Inspection<F>, Refused<F>>
-        ensures opened { MatchResult result (λ i. (core_of i ≡ fresh draft depth) × (i.filter ≡ filter)) (λ x. (6 < depth) × (x.fault ≡ TooDeep depth) × (x.draft ≡ draft) × (x.filter ≡ filter)) }
+        ensures fault { fault_notice (λ x. notice_of_opening x.fault) result
+            ≡ first_fit (depth_checks depth) }
+        ensures core { IfOk result (λ i. core_of i ≡ core_at_start draft depth) }
+        ensures filter { IfOk result (λ i. i.filter ≡ filter) }
         ensures begins { IfOk result (λ i. Opened draft (state_of i vf.new ee.new)) }
-        ensures vf { contents_of vf.new ≡ (if is_ok result then emptied (contents_of vf.old) else contents_of vf.old) }
-        ensures ee { contents_of ee.new ≡ (if is_ok result then emptied (contents_of ee.old) else contents_of ee.old) }
+        ensures draft_back { IfErr result (λ x. x.draft ≡ draft) }
+        ensures filter_back { IfErr result (λ x. x.filter ≡ filter) }
+        ensures vf { let old = contents_of vf.old in
+            contents_of vf.new ≡ (if is_ok result then without_entries old else old) }
+        ensures ee { let old = contents_of ee.old in
+            contents_of ee.new ≡ (if is_ok result then without_entries old else old) }
     {
         if is_too_deep(depth) {
             let fault = OpeningFault::TooDeep(depth);
@@ -59,7 +66,7 @@ impl<F: Filter> Inspection<F> {
 
     /// Sets the depth, at any moment.
     pub fn set_depth(&mut self, depth: u8) -> Result<(), OpeningFault>
-        ensures step { DepthSet depth (core_of self.old) result (core_of self.new) }
+        ensures step { DepthStep depth (core_of self.old) result (core_of self.new) }
         ensures filter { self.new.filter ≡ self.old.filter }
     {
         if is_too_deep(depth) {

@@ -1,10 +1,10 @@
 // The window of an entry.
 ghost use Rattle.std.specs.Prelude.{◌≡◌};
 ghost use Rattle.motion.specs.Depths.{window_at};
-ghost use Rattle.inspection.specs.Sheets.{seen};
+ghost use Rattle.inspection.specs.Sheets.{sheet_of_rows};
 ghost use Rattle.inspection.specs.Lists.{contents_of};
 ghost use Rattle.inspection.specs.States.{core_of};
-ghost use Rattle.inspection.specs.Windows.{Windowed};
+ghost use Rattle.inspection.specs.Windows.{WindowAnswer};
 
 use super::Inspection;
 use crate::faults::WindowFault;
@@ -15,7 +15,8 @@ use filters::{Filter, window_at};
 use sheet::{Face, Point};
 
 impl<F: Filter> Inspection<F> {
-    /// The first and the last part of the step that the filter passes of an entry's test, at the depth now set; none where it strikes each.
+    /// The first and the last of the 2^depth parts of the step, from 0, that the filter passes of
+    /// an entry's test, at the depth now set; none where it strikes each. `entry` counts from 0.
     pub fn window<E: TestName>(
         &self,
         points: &[Point],
@@ -23,7 +24,8 @@ impl<F: Filter> Inspection<F> {
         list: &List<'_, E>,
         entry: u32,
     ) -> Result<Option<(u8, u8)>, WindowFault>
-        ensures { Windowed E.naming points.now faces.now (core_of self.now) (contents_of list.now) entry (F.Filter.struck self.now.filter) result }
+        ensures { WindowAnswer E.naming points.now faces.now (core_of self.now)
+            (contents_of list.now) entry (F.Filter.struck self.now.filter) result }
     {
         let Some(rows) = Rows::of(&self.draft, points, faces) else {
             return Err(WindowFault::TableTooShort);
@@ -38,7 +40,8 @@ impl<F: Filter> Inspection<F> {
     }
 
     fn window_of<E: TestName>(&self, e: E, rows: Rows<'_>) -> Option<(u8, u8)>
-        ensures { result ≡ window_at (F.Filter.struck self.now.filter) self.now.depth ((E.naming).shape (seen rows.entry) e) }
+        ensures { let shape = E.naming.shape (sheet_of_rows rows.entry) e in
+            result ≡ window_at (F.Filter.struck self.now.filter) self.now.depth shape }
     {
         let test = e.test(rows);
         let Some(window) = window_at(&self.filter, &test, self.depth) else {

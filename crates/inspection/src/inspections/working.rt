@@ -1,14 +1,16 @@
 // A whole inspection from an opening on, by a list of requests.
-ghost use Rattle.std.specs.Prelude.{◌≡◌, ◌<◌, ◌≤◌, min, length, take, drop, MatchResult, IfOk};
+ghost use Rattle.std.specs.Prelude.{◌≡◌, min, length, take, drop, IfOk, IfErr, OnErr};
+ghost use Rattle.sheet.specs.Checks.{first_fit, fault_notice};
+ghost use Rattle.inspection.specs.Faults.{notice_of_opening};
 ghost use Rattle.inspection.specs.Sheets.{sheet_in};
 ghost use Rattle.inspection.specs.Lists.{contents_of};
-ghost use Rattle.inspection.specs.States.{state_of, start};
-ghost use Rattle.inspection.specs.Runs.{Run};
+ghost use Rattle.inspection.specs.States.{state_of, state_at_start};
+ghost use Rattle.inspection.specs.Runs.{depth_checks, Run};
 ghost use Rattle.inspection.specs.Claims.{Claim};
-ghost use Rattle.inspection.specs.Requests.{Answered, Steps, history};
-ghost use Rattle.inspection.specs.declared.faults.OpeningFault.TheVariants.{TooDeep};
+ghost use Rattle.inspection.specs.Requests.{RequestStep, Steps, history};
 
 use super::{Inspection, Refused};
+use crate::kinds::ListKind;
 use crate::lists::List;
 use crate::names::{EeName, VfName};
 use crate::requests::{Answer, Request};
@@ -25,7 +27,8 @@ impl<F: Filter> Inspection<F> {
         ee: &mut List<'_, EeName>,
         request: Request,
     ) -> Answer
-        ensures step { Answered (F.Filter.struck self.old.filter) points.now faces.now request result (state_of self.old vf.old ee.old) (state_of self.new vf.new ee.new) }
+        ensures step { RequestStep (F.Filter.struck self.old.filter) points.now faces.now
+            request result (state_of self.old vf.old ee.old) (state_of self.new vf.new ee.new) }
         ensures filter { self.new.filter ≡ self.old.filter }
     {
         match request {
@@ -33,8 +36,12 @@ impl<F: Filter> Inspection<F> {
             Request::Offer(first, second) => {
                 Answer::Offered(self.offer(points, faces, vf, ee, first, second))
             }
-            Request::VfWindow(entry) => Answer::Window(self.window(points, faces, vf, entry)),
-            Request::EeWindow(entry) => Answer::Window(self.window(points, faces, ee, entry)),
+            Request::Window(ListKind::Vf, entry) => {
+                Answer::Window(self.window(points, faces, vf, entry))
+            }
+            Request::Window(ListKind::Ee, entry) => {
+                Answer::Window(self.window(points, faces, ee, entry))
+            }
         }
     }
 }
@@ -46,9 +53,10 @@ pub struct Worked<F> {
     pub answered: usize,
 }
 
-/// Opens an inspection and works through requests in their order, as many as there are places for answers.
+/// Opens an inspection and works through requests in their order, as many as there are places for
+/// answers. A refusal hands back the draft and the filter, and leaves the lists and the answers.
 ///
-/// Of what came of them nobody can name a touch that is missed: that is the claim in the contract.
+/// Of what came of them nobody can name a touch that is missed: that is the clause `claim`.
 pub fn inspect<F: Filter>(
     draft: Draft,
     filter: F,
@@ -60,18 +68,30 @@ pub fn inspect<F: Filter>(
     requests: &[Request],
     answers: &mut [Answer],
 ) -> Result<Worked<F>, Refused<F>>
-    ensures worked { let n = min (length requests.now) (length answers.old) in
-        MatchResult result
-        (λ w. (depth ≤ 6) × (w.answered ≡ n) × (w.inspection.filter ≡ filter) × (drop n answers.new ≡ drop n answers.old)
-        × Steps (F.Filter.struck filter) points.now faces.now (take n requests.now) (take n answers.new) (start draft depth (contents_of vf.old) (contents_of ee.old)) (state_of w.inspection vf.new ee.new))
-        (λ x. (6 < depth) × (x.fault ≡ TooDeep depth) × (x.draft ≡ draft) × (x.filter ≡ filter) × (answers.new ≡ answers.old)
-        × (contents_of vf.new ≡ contents_of vf.old) × (contents_of ee.new ≡ contents_of ee.old)) }
-    ensures run { let n = min (length requests.now) (length answers.old) in
-        let accepted = history depth (take n requests.now) (take n answers.new) in
-        IfOk result (λ w. Run (F.Filter.struck filter) draft (sheet_in draft points.now faces.now) accepted (state_of w.inspection vf.new ee.new)) }
-    ensures claim { let n = min (length requests.now) (length answers.old) in
-        let accepted = history depth (take n requests.now) (take n answers.new) in
-        IfOk result (λ w. Claim (F.Filter.struck filter) draft (sheet_in draft points.now faces.now) accepted (state_of w.inspection vf.new ee.new)) }
+    ensures fault { fault_notice (λ x. notice_of_opening x.fault) result
+        ≡ first_fit (depth_checks depth) }
+    ensures answered { IfOk result (λ w.
+        w.answered ≡ min (length requests.now) (length answers.old)) }
+    ensures steps { IfOk result (λ w.
+        Steps (F.Filter.struck filter) points.now faces.now
+        (take w.answered requests.now) (take w.answered answers.new)
+        (state_at_start draft depth (contents_of vf.old) (contents_of ee.old))
+        (state_of w.inspection vf.new ee.new)) }
+    ensures rest { IfOk result (λ w. drop w.answered answers.new ≡ drop w.answered answers.old) }
+    ensures filter { IfOk result (λ w. w.inspection.filter ≡ filter) }
+    ensures run { IfOk result (λ w.
+        Run (F.Filter.struck filter) draft (sheet_in draft points.now faces.now)
+        (history depth (take w.answered requests.now) (take w.answered answers.new))
+        (state_of w.inspection vf.new ee.new)) }
+    ensures claim { IfOk result (λ w.
+        Claim (F.Filter.struck filter) draft (sheet_in draft points.now faces.now)
+        (history depth (take w.answered requests.now) (take w.answered answers.new))
+        (state_of w.inspection vf.new ee.new)) }
+    ensures draft_back { IfErr result (λ x. x.draft ≡ draft) }
+    ensures filter_back { IfErr result (λ x. x.filter ≡ filter) }
+    ensures answers_back { OnErr result (answers.new ≡ answers.old) }
+    ensures vf_back { OnErr result (contents_of vf.new ≡ contents_of vf.old) }
+    ensures ee_back { OnErr result (contents_of ee.new ≡ contents_of ee.old) }
 {
     let mut inspection = Inspection::open(draft, filter, depth, vf, ee)?;
     let n = requests.len().min(answers.len());

@@ -1,8 +1,8 @@
-use Rattle.std.proofs.Common.{◌≡◌, ℕ, ◌<◌, ◌≤◌, length, take, min, ap, ◌∙◌, subst, arith}
+use Rattle.std.proofs.Common.{◌≡◌, ℕ, ◌<◌, ◌≤◌, length, take, ap, ◌∙◌, subst, arith}
 use Rattle.inspection.specs.Lists.{contents_of}
 use Rattle.inspection.specs.Sheets.{sheet_in}
 use Rattle.inspection.specs.Runs.{Run}
-use Rattle.inspection.specs.States.{Core, State, state_of, start}
+use Rattle.inspection.specs.States.{Core, State, state_of, state_at_start}
 use Rattle.inspection.specs.Requests.{history}
 use Rattle.inspection.specs.declared.requests.Request.TheVariants.{SetDepth}
 use Rattle.inspection.proofs.Claiming.{claim}
@@ -19,7 +19,7 @@ loop-i-preserved g c =
     let there : l.i < length l.answers = omega arith in
     let u : State = state_of c.answer.new.self c.answer.new.vf c.answer.new.ee in
     record {
-      steps = worked-on (g.F.Filter.struck a.filter) a.points.now a.faces.now a.requests.now l.answers l.i (SetDepth 0) c.answer.result (start a.draft a.depth (contents_of a.vf.now) (contents_of a.ee.now)) (state_of l.inspection l.vf l.ee) u here there i.steps
+      steps = worked-on (g.F.Filter.struck a.filter) a.points.now a.faces.now a.requests.now l.answers l.i (SetDepth 0) c.answer.result (state_at_start a.draft a.depth (contents_of a.vf.now) (contents_of a.ee.now)) (state_of l.inspection l.vf l.ee) u here there i.steps
           (rw (← i.filter) e.step);
       filter = e.filter ∙ i.filter;
       rest = rest-more l.answers a.answers.now l.i c.answer.result i.rest;
@@ -30,15 +30,15 @@ returns-clause-run g c =
     let a = c.args in
     let l = c.loop-i in
     let n : l.i ≡ c.min-n.result = omega arith in
-    let k : a.depth ≤ 6 = subst (λ (d : ℕ). d ≤ 6) (ap (λ (x : Core). x.depth) c.in_ok-inspection.ensures.opened.0) c.in_ok-inspection.ensures.begins.depth in
+    let k : a.depth ≤ 6 = subst (λ (d : ℕ). d ≤ 6) (ap (λ (x : Core). x.depth) c.in_ok-inspection.ensures.core) c.in_ok-inspection.ensures.begins.depth in
     let set = g.F.Filter.struck a.filter in
     let t : State = state_of l.inspection l.vf l.ee in
-    subst (λ (j : ℕ). Run set a.draft (sheet_in a.draft a.points.now a.faces.now) (history a.depth (take j a.requests.now) (take j l.answers)) t) (n ∙ c.min-n.ensures)
+    subst (λ (j : ℕ). Run set a.draft (sheet_in a.draft a.points.now a.faces.now) (history a.depth (take j a.requests.now) (take j l.answers)) t) n
     (runs-on set a.points.now a.faces.now a.draft a.depth (contents_of a.vf.now) (contents_of a.ee.now) (take l.i a.requests.now) (take l.i l.answers) t k l.invariant.steps)
 
 pub returns-clause-claim : goal.returns-clause-claim
 returns-clause-claim g c =
     let a = c.args in
-    let n = min (length a.requests.now) (length a.answers.now) in
+    let n = c.min-n.result in
     claim (g.F.Filter.lawful a.filter) a.draft (sheet_in a.draft a.points.now a.faces.now) (history a.depth (take n a.requests.now) (take n c.loop-i.answers))
     (state_of c.loop-i.inspection c.loop-i.vf c.loop-i.ee) (returns-clause-run g c)

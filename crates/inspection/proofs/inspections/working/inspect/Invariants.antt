@@ -1,13 +1,13 @@
 use Rattle.std.proofs.Common.{◌≡◌, take, drop}
 use Rattle.inspection.specs.Lists.{contents_of}
-use Rattle.inspection.specs.States.{state_of, start}
+use Rattle.inspection.specs.States.{state_of, state_at_start}
 use Rattle.inspection.specs.Requests.{Steps}
 use Rattle.inspection.proofs.inspections.working.inspect.Given as goal
 
 -- the first i requests are worked
 abbrev pub invariant-loop-i : goal.invariant-loop-i
 invariant-loop-i g l = record {
-  steps : Steps (g.F.Filter.struck l.fn.filter) l.points l.faces (take l.i l.requests) (take l.i l.answers) (start l.fn.draft l.depth (contents_of l.fn.vf) (contents_of l.fn.ee)) (state_of l.inspection l.vf l.ee);
+  steps : Steps (g.F.Filter.struck l.fn.filter) l.points l.faces (take l.i l.requests) (take l.i l.answers) (state_at_start l.fn.draft l.depth (contents_of l.fn.vf) (contents_of l.fn.ee)) (state_of l.inspection l.vf l.ee);
   filter : l.inspection.filter ≡ l.fn.filter;
   rest : drop l.i l.answers ≡ drop l.i l.fn.answers;
 }

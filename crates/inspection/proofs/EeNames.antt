@@ -1,29 +1,17 @@
 -- The names of tests of an edge against an edge.
-use Rattle.std.proofs.Common.{◌≡◌, ℕ, zero, suc, ◌+◌, Bool, true, false, cond, ◌&&◌, ◌||◌, ◌==◌, nat_lt, List, [], ◌∷◌, length, sym, refl, ap, ◌∙◌, subst, subst₂, ⊎_elim, arith, eq-eqb, eqb-true, ltb-true, ltb-false}
-use Rattle.std.proofs.lemmas.Bool.{and_parts, and_from, or_left, both_ways}
+use Rattle.std.proofs.Common.{◌≡◌, ℕ, zero, suc, ◌+◌, Bool, true, false, cond, ◌||◌, ◌==◌, nat_lt, List, [], ◌∷◌, length, sym, refl, ap, ◌∙◌, subst, subst₂, ⊎_elim, arith, eq-eqb, ltb-true, ltb-false}
+use Rattle.std.proofs.lemmas.Bool.{or_left, both_ways}
 use Rattle.inspection.specs.declared.names.EeName.{EeName}
 use Rattle.inspection.specs.declared.names.Edge.{Edge}
-use Rattle.inspection.specs.Names.{ee_same, ee_shared, ee_name_of, meet}
-use Rattle.inspection.specs.Offerings.{Offering, Faces, Alike}
+use Rattle.inspection.specs.Names.{ee_shared, ee_name_of, name_in_order}
+use Rattle.inspection.specs.Offerings.{Offering, Faces, SameOffering}
 use Rattle.inspection.specs.Sheets.{Sheet, face_at}
 use Rattle.inspection.specs.Pairs.{edges, edge_against, edges_against}
 use Rattle.inspection.specs.Tests.{ee_naming}
 use Rattle.inspection.specs.Lists.{At}
 use Rattle.inspection.proofs.Standing.{in_front, behind, parts}
-use Rattle.inspection.proofs.Namings.{Named}
-
-ee_itself : (x : EeName) → ee_same x x ≡ true
-ee_itself x =
-    and_from (x.u == x.u && x.v == x.v && x.k == x.k) (x.l == x.l)
-    (and_from (x.u == x.u && x.v == x.v) (x.k == x.k) (and_from (x.u == x.u) (x.v == x.v) (eq-eqb x.u x.u refl) (eq-eqb x.v x.v refl)) (eq-eqb x.k x.k refl))
-    (eq-eqb x.l x.l refl)
-
-ee_equal : (x y : EeName) → ee_same x y ≡ true → x ≡ y
-ee_equal x y h =
-    let p = and_parts (x.u == y.u && x.v == y.v && x.k == y.k) (x.l == y.l) h in
-    let q = and_parts (x.u == y.u && x.v == y.v) (x.k == y.k) p.0 in
-    let r = and_parts (x.u == y.u) (x.v == y.v) q.0 in
-    λ i. record { u = eqb-true x.u y.u r.0 i; v = eqb-true x.v y.v r.1 i; k = eqb-true x.k y.k q.1 i; l = eqb-true x.l y.l p.1 i }
+use Rattle.inspection.proofs.Sameness.{ee_equivalence, ee_equal}
+use Rattle.inspection.proofs.NamingLaws.{NamingLaws}
 
 -- ---- each edge of the one against each of the other
 pub record Met (es fs : List Edge) (x : EeName) : Type 0 where
@@ -67,20 +55,20 @@ every_meeting (d ∷ es) fs (suc i) j e f p q =
 swapped : (e f : Edge) → ee_shared (ee_name_of e f) ≡ false → ee_name_of f e ≡ ee_name_of e f
 swapped e f u = go (nat_lt f.first e.first) (nat_lt e.first f.first) refl refl u
   where
-    tied : e.first ≡ f.first → ee_shared (meet e f) ≡ true
+    tied : e.first ≡ f.first → ee_shared (name_in_order e f) ≡ true
     tied h =
         or_left (e.first == f.first || e.first == f.second || e.second == f.first) (e.second == f.second)
         (or_left (e.first == f.first || e.first == f.second) (e.second == f.first) (or_left (e.first == f.first) (e.first == f.second) (eq-eqb e.first f.first h)))
 
-    go : (a b : Bool) → nat_lt f.first e.first ≡ a → nat_lt e.first f.first ≡ b → ee_shared (cond a (meet f e) (meet e f)) ≡ false
-        → cond b (meet e f) (meet f e) ≡ cond a (meet f e) (meet e f)
+    go : (a b : Bool) → nat_lt f.first e.first ≡ a → nat_lt e.first f.first ≡ b → ee_shared (cond a (name_in_order f e) (name_in_order e f)) ≡ false
+        → cond b (name_in_order e f) (name_in_order f e) ≡ cond a (name_in_order f e) (name_in_order e f)
     go true true p q u = let l = ltb-true f.first e.first p in let m = ltb-true e.first f.first q in absurd (omega arith)
     go true false p q u = refl
     go false true p q u = refl
     go false false p q u =
         let l = ltb-false f.first e.first p in
         let m = ltb-false e.first f.first q in
-        absurd (both_ways (ee_shared (meet e f)) u (tied (omega arith)))
+        absurd (both_ways (ee_shared (name_in_order e f)) u (tied (omega arith)))
 
 edges-turned : (es fs : List Edge) (k : ℕ) (x : EeName) → At (edges_against es fs) k x → ee_shared x ≡ false → (l : ℕ) × At (edges_against fs es) l x
 edges-turned es fs k x p u =
@@ -89,7 +77,7 @@ edges-turned es fs k x p u =
     let s = swapped m.e m.f (ap ee_shared m.name ∙ u) in
     (l, subst (λ (y : EeName). At (edges_against fs es) l y) (s ∙ m.name) q)
 
-ee-turned : (sheet : Sheet) (o p : Offering) → Alike o p → (j : ℕ) (x : EeName) → At (ee_naming.tests sheet o) j x → ee_naming.shared sheet x ≡ false → (i : ℕ) × At (ee_naming.tests sheet p) i x
+ee-turned : (sheet : Sheet) (o p : Offering) → SameOffering o p → (j : ℕ) (x : EeName) → At (ee_naming.tests sheet o) j x → ee_naming.shared sheet x ≡ false → (i : ℕ) × At (ee_naming.tests sheet p) i x
 ee-turned sheet (Faces f g) (Faces k l) a j x p u =
     ⊎_elim
     (λ (y, z). (j, subst₂ (λ (f g : ℕ). At (ee_naming.tests sheet (Faces f g)) j x) y z p))
@@ -98,10 +86,10 @@ ee-turned sheet (Faces f g) (Faces k l) a j x p u =
     (i, subst₂ (λ (f g : ℕ). At (ee_naming.tests sheet (Faces f g)) i x) z y q))
     a
 
-pub ee_named : (sheet : Sheet) → Named ee_naming sheet
-ee_named sheet =
+pub ee_laws : (sheet : Sheet) → NamingLaws ee_naming sheet
+ee_laws sheet =
     record {
-      itself = ee_itself;
+      itself = ee_equivalence.refl;
       equal = ee_equal;
       scale = λ x. refl;
       valid = λ r x. (omega arith, r x.l, r x.k, r x.u, r x.v);
