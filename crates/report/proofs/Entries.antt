@@ -4,7 +4,7 @@ use Rattle.std.proofs.lemmas.List.{length-take, get_or-take, drop_more, take_mor
 use Rattle.std.proofs.lemmas.List.Concat.{flat_map-append}
 use Rattle.std.proofs.lemmas.Option.{slice_get-get_or}
 use Rattle.inspection.specs.Tests.{Naming}
-use Rattle.report.specs.declared.faults.Listed.{Listed}
+use Rattle.inspection.specs.declared.kinds.ListKind.{ListKind}
 use Rattle.report.specs.Reports.{View, checks_from}
 
 -- an entry of the first ones stands in the list
@@ -15,7 +15,7 @@ entry_there xs limit i e h is =
 
 module _ {E : Type 0} (es : List E) (i : ℕ) (e : E) (h : i < length es) (is : e ≡ get_or es i e) where
   -- its checks, and those of the entries after it
-  pub checks_more : (n : Naming E) (l : Listed) (v : View) → checks_from n l v i (e ∷ []) ++ checks_from n l v (i + 1) (drop (i + 1) es) ≡ checks_from n l v i (drop i es)
+  pub checks_more : (n : Naming E) (l : ListKind) (v : View) → checks_from n l v i (e ∷ []) ++ checks_from n l v (i + 1) (drop (i + 1) es) ≡ checks_from n l v i (drop i es)
   checks_more n l v = sym (ap (checks_from n l v i) (drop_more es i e h ∙ ap (λ x. x ∷ drop (i + 1) es) (sym is)))
 
   -- its line, after those of the entries before it

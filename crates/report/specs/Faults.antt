@@ -2,8 +2,8 @@
 use Rattle.std.specs.Prelude.{ℕ}
 use Rattle.sheet.specs.declared.notices.Layer.TheVariants.{Report}
 use Rattle.sheet.specs.declared.notices.Notice.{Notice}
-use Rattle.report.specs.declared.faults.Listed.{Listed}
-use Rattle.report.specs.declared.faults.Listed.TheVariants.{Vf, Ee}
+use Rattle.inspection.specs.declared.kinds.ListKind.{ListKind}
+use Rattle.inspection.specs.declared.kinds.ListKind.TheVariants.{Vf, Ee}
 use Rattle.report.specs.declared.faults.ReportFault.{ReportFault}
 use Rattle.report.specs.declared.faults.ReportFault.TheVariants.{TableTooShort, NotOfTheSheet, OutputTooShort}
 
@@ -11,7 +11,7 @@ abbrev pub notice_at : ℕ → ℕ → ℕ → Notice
 notice_at n i j = record { number = n; layer = Report; first = i; second = j }
 
 -- the VF list, or the EE list
-abbrev pub place_of : Listed → ℕ
+abbrev pub place_of : ListKind → ℕ
 place_of Vf = 0
 place_of Ee = 1
 

@@ -12,10 +12,11 @@ use Rattle.inspection.specs.declared.inspections.Inspection.{Inspection}
 use Rattle.inspection.specs.declared.names.VfName.{VfName}
 use Rattle.inspection.specs.declared.names.EeName.{EeName}
 use Rattle.inspection.specs.Lists.{Contents}
-use Rattle.inspection.specs.States.{Core, core_of, tally_of}
-use Rattle.inspection.specs.Offers.{short}
-use Rattle.report.specs.declared.faults.Listed.{Listed}
-use Rattle.report.specs.declared.faults.Listed.TheVariants.{Vf, Ee}
+use Rattle.inspection.specs.States.{Core, core_of}
+use Rattle.inspection.specs.Tallies.{tally_in}
+use Rattle.inspection.specs.Offers.{lacks_rows}
+use Rattle.inspection.specs.declared.kinds.ListKind.{ListKind}
+use Rattle.inspection.specs.declared.kinds.ListKind.TheVariants.{Vf, Ee}
 use Rattle.report.specs.Faults.{notice_at, place_of}
 use Rattle.report.specs.Lines.{vf_line, ee_line, count_line}
 
@@ -33,8 +34,8 @@ abbrev pub sheet_of : View → Sheet
 sheet_of v = sheet_in v.core.draft v.points v.faces
 
 -- a table is shorter than its count
-abbrev pub is_short : View → Bool
-is_short v = short v.core.draft v.points v.faces
+abbrev pub lacks_rows_in : View → Bool
+lacks_rows_in v = lacks_rows v.core.draft v.points v.faces
 
 -- the entries that have a number, which is below 2^32; an inspection lists no more than nine million
 unfoldable pub entry_limit : ℕ
@@ -47,7 +48,7 @@ abbrev pub refuses : Bool → ℕ → ℕ → ℕ → Check
 refuses b number first second = record { fits = b; tells = notice_at number first second }
 
 -- ---- of a list: what its entries name, and which list it is
-module _ {E : Type 0} (n : Naming E) (l : Listed) (v : View) where
+module _ {E : Type 0} (n : Naming E) (l : ListKind) (v : View) where
   -- the entries from number i on
   abbrev pub checks_from : ℕ → List E → List Check
   checks_from i [] = []
@@ -69,12 +70,12 @@ module _ {E : Type 0} (n : Naming E) (l : Listed) (v : View) where
 module _ (v : View) (vf : Contents VfName) (ee : Contents EeName) where
   abbrev pub report_text : List ℕ
   report_text =
-      section vf_naming Vf v vf_line vf (tally_of 0 v.core)
-      ++ section ee_naming Ee v ee_line ee (tally_of 1 v.core)
+      section vf_naming Vf v vf_line vf (tally_in Vf v.core.tallies)
+      ++ section ee_naming Ee v ee_line ee (tally_in Ee v.core.tallies)
 
   -- whatever the output
   abbrev pub len_checks : List Check
-  len_checks = refuses (is_short v) 16 0 0 ∷ (entry_checks vf_naming Vf v vf ++ entry_checks ee_naming Ee v ee)
+  len_checks = refuses (lacks_rows_in v) 16 0 0 ∷ (entry_checks vf_naming Vf v vf ++ entry_checks ee_naming Ee v ee)
 
   -- for an output of so many bytes
   abbrev pub report_checks : ℕ → List Check

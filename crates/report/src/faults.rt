@@ -2,21 +2,15 @@
 ghost use Rattle.std.specs.Prelude.{◌≡◌};
 ghost use Rattle.report.specs.Faults.{notice_at, place_of, notice_of_report};
 
+use inspection::ListKind;
 use sheet::{Layer, Notice};
-
-/// One of the two lists.
-#[derive(Clone, Copy, Debug, PartialEq, Eq)]
-pub enum Listed {
-    Vf,
-    Ee,
-}
 
 #[derive(Clone, Copy, Debug, PartialEq, Eq)]
 pub enum ReportFault {
     /// A table has fewer rows than the sheet.
     TableTooShort,
     /// The entry of the list has a number that is not of the sheet.
-    NotOfTheSheet(u32, Listed),
+    NotOfTheSheet(u32, ListKind),
     /// The output is too short for the report.
     OutputTooShort,
 }
@@ -32,15 +26,13 @@ fn notice(number: u8, first: u32, second: u32) -> Notice
     }
 }
 
-impl Listed {
-    /// How a place tells a list.
-    fn place(self) -> u32
-        ensures { result ≡ place_of self }
-    {
-        match self {
-            Listed::Vf => 0,
-            Listed::Ee => 1,
-        }
+/// How a place tells a list.
+fn place(list: ListKind) -> u32
+    ensures { result ≡ place_of list }
+{
+    match list {
+        ListKind::Vf => 0,
+        ListKind::Ee => 1,
     }
 }
 
@@ -51,7 +43,7 @@ impl ReportFault {
     {
         match self {
             ReportFault::TableTooShort => notice(16, 0, 0),
-            ReportFault::NotOfTheSheet(entry, list) => notice(19, entry, list.place()),
+            ReportFault::NotOfTheSheet(entry, list) => notice(19, entry, place(list)),
             ReportFault::OutputTooShort => notice(23, 0, 0),
         }
     }

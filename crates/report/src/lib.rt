@@ -6,5 +6,5 @@ mod lines;
 mod reporting;
 mod sections;
 
-pub use faults::{Listed, ReportFault};
+pub use faults::ReportFault;
 pub use reporting::{report, report_len};

@@ -1,12 +1,11 @@
 // The lines of the two kinds of entries, and of their counts.
 ghost use Rattle.std.specs.Prelude.{◌≡◌, ◌+◌, ◌≤◌, ◌++◌, ℕ, List, Option, codes, decimal};
 ghost use Rattle.arrayvec.specs.ArrayString.{array_string_len};
-ghost use Rattle.report.specs.declared.faults.Listed.{Listed};
+ghost use Rattle.inspection.specs.declared.kinds.ListKind.{ListKind};
 ghost use Rattle.report.specs.Lines.{word_of, spaced, window_parts, vf_line, ee_line, count_line};
 
-use crate::faults::Listed;
 use arrayvec::ArrayString;
-use inspection::{EeName, Tally, TestName, VfName};
+use inspection::{EeName, ListKind, Tally, TestName, VfName};
 use itoa::Buffer;
 
 /// A line has fewer bytes.
@@ -15,12 +14,12 @@ pub(crate) type Line = ArrayString<96>;
 /// An entry that has a line in the report.
 pub(crate) trait HasLine: TestName {
     // which list it stands on
-    ghost kind: { Listed };
+    ghost kind: { ListKind };
 
     // its line, with its window
     ghost line: { Self → Option (ℕ × ℕ) → List ℕ };
 
-    fn kind() -> Listed
+    fn kind() -> ListKind
         ensures { result ≡ kind };
 
     fn line(self, window: Option<(u8, u8)>) -> Line
@@ -28,18 +27,18 @@ pub(crate) trait HasLine: TestName {
 }
 
 impl HasLine for VfName {
-    ghost use Rattle.report.specs.declared.faults.Listed.TheVariants.{Vf};
+    ghost use Rattle.inspection.specs.declared.kinds.ListKind.TheVariants.{Vf};
 
     ghost kind = { Vf };
 
     ghost line = { vf_line };
 
-    fn kind() -> Listed {
-        Listed::Vf
+    fn kind() -> ListKind {
+        ListKind::Vf
     }
 
     fn line(self, window: Option<(u8, u8)>) -> Line {
-        let mut line = start(Listed::Vf);
+        let mut line = start(ListKind::Vf);
         number(&mut line, u32::from(self.point));
         number(&mut line, u32::from(self.face));
         put_window(&mut line, window);
@@ -49,18 +48,18 @@ impl HasLine for VfName {
 }
 
 impl HasLine for EeName {
-    ghost use Rattle.report.specs.declared.faults.Listed.TheVariants.{Ee};
+    ghost use Rattle.inspection.specs.declared.kinds.ListKind.TheVariants.{Ee};
 
     ghost kind = { Ee };
 
     ghost line = { ee_line };
 
-    fn kind() -> Listed {
-        Listed::Ee
+    fn kind() -> ListKind {
+        ListKind::Ee
     }
 
     fn line(self, window: Option<(u8, u8)>) -> Line {
-        let mut line = start(Listed::Ee);
+        let mut line = start(ListKind::Ee);
         number(&mut line, u32::from(self.u));
         number(&mut line, u32::from(self.v));
         number(&mut line, u32::from(self.k));
@@ -72,7 +71,7 @@ impl HasLine for EeName {
 }
 
 /// The line of the counts of a kind.
-pub(crate) fn count_line(list: Listed, tally: Tally) -> Line
+pub(crate) fn count_line(list: ListKind, tally: Tally) -> Line
     ensures { result.bytes ≡ count_line list tally }
 {
     let mut line = start(list);
@@ -89,14 +88,14 @@ pub(crate) fn count_line(list: Listed, tally: Tally) -> Line
 }
 
 /// The word that the lines of a list begin with.
-fn start(list: Listed) -> Line
+fn start(list: ListKind) -> Line
     ensures text { result.bytes ≡ word_of list }
     ensures len { array_string_len result ≡ 2 }
 {
     let mut line = ArrayString::new();
     match list {
-        Listed::Vf => line.push_str("VF"),
-        Listed::Ee => line.push_str("EE"),
+        ListKind::Vf => line.push_str("VF"),
+        ListKind::Ee => line.push_str("EE"),
     }
     line
 }

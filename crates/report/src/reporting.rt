@@ -4,7 +4,7 @@ ghost use Rattle.sheet.specs.Checks.{first_fit, fault_notice};
 ghost use Rattle.sheet.specs.Sheet.{onto_front};
 ghost use Rattle.inspection.specs.Lists.{contents_of};
 ghost use Rattle.report.specs.Faults.{notice_of_report};
-ghost use Rattle.report.specs.Reports.{view_of, is_short, report_text, len_checks, report_checks};
+ghost use Rattle.report.specs.Reports.{view_of, lacks_rows_in, report_text, len_checks, report_checks};
 
 use crate::faults::ReportFault;
 use crate::sections::put_section;
@@ -73,7 +73,7 @@ fn put<F: Filter>(
         let text = report_text v (contents_of vf.now) (contents_of ee.now) in
         OnOk result (length text ≤ length output.old → output.new ≡ onto_front text output.old) }
 {
-    if is_short(inspection, points, faces, vf) {
+    if lacks_rows(inspection, points, faces, vf) {
         return Err(ReportFault::TableTooShort);
     }
     let counts = inspection.findings(vf, ee);
@@ -84,13 +84,13 @@ fn put<F: Filter>(
 }
 
 /// Whether a table is shorter than its count: that is a window's first check, whatever the entry.
-fn is_short<F: Filter>(
+fn lacks_rows<F: Filter>(
     inspection: &Inspection<F>,
     points: &[Point],
     faces: &[Face],
     vf: &List<'_, VfName>,
 ) -> bool
-    ensures { result ≡ is_short (view_of F.Filter.struck inspection.now points.now faces.now) }
+    ensures { result ≡ lacks_rows_in (view_of F.Filter.struck inspection.now points.now faces.now) }
 {
     match inspection.window(points, faces, vf, 0) {
         Err(WindowFault::TableTooShort) => true,

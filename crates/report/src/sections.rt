@@ -4,7 +4,7 @@ ghost use Rattle.sheet.specs.Checks.{first_fit, fault_notice};
 ghost use Rattle.sheet.specs.Sheet.{onto_front};
 ghost use Rattle.inspection.specs.Lists.{contents_of, entries};
 ghost use Rattle.report.specs.Faults.{notice_of_report};
-ghost use Rattle.report.specs.Reports.{view_of, is_short, numbered, entry_line, section, checks_from, entry_checks};
+ghost use Rattle.report.specs.Reports.{view_of, lacks_rows_in, numbered, entry_line, section, checks_from, entry_checks};
 ghost use Rattle.report.specs.Writing.{written_at};
 
 use crate::faults::ReportFault;
@@ -25,7 +25,7 @@ pub(crate) fn put_section<F: Filter, E: HasLine>(
     tally: Tally,
     out: &mut [u8],
 ) -> Result<usize, ReportFault>
-    requires { is_short (view_of F.Filter.struck inspection.now points.now faces.now) ≡ false }
+    requires { lacks_rows_in (view_of F.Filter.struck inspection.now points.now faces.now) ≡ false }
     ensures fault { let v = view_of F.Filter.struck inspection.now points.now faces.now in
         let checks = entry_checks E.TestName.naming E.HasLine.kind v (contents_of list.now) in
         fault_notice notice_of_report result ≡ first_fit checks }
@@ -63,7 +63,7 @@ fn line_of<F: Filter, E: HasLine>(
     i: u32,
     e: E,
 ) -> Result<Line, ReportFault>
-    requires rows { is_short (view_of F.Filter.struck inspection.now points.now faces.now) ≡ false }
+    requires rows { lacks_rows_in (view_of F.Filter.struck inspection.now points.now faces.now) ≡ false }
     requires entry { slice_get (entries list.now) i ≡ Some e }
     ensures fault { let v = view_of F.Filter.struck inspection.now points.now faces.now in
         fault_notice notice_of_report result ≡ first_fit (checks_from E.TestName.naming E.HasLine.kind v i (e ∷ [])) }
