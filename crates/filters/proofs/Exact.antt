@@ -4,17 +4,17 @@ use Rattle.std.proofs.Common.{◌≡◌, ℕ, ◌+◌, ◌*◌, ◌^◌, ◌<◌
 use mir.Syntax.{Width}
 use mir.Val.{hbits}
 use borrow.Author.Differences.{ints}
-use Rattle.motion.proofs.Sizes.{abs-mul}
-use Rattle.filters.specs.Sizes.{Near}
+use Rattle.motion.proofs.Gaps.{abs-mul}
+use Rattle.filters.specs.Reaching.{Near}
 
-pub near_mul : {a b : ℤ} {m n : ℕ} → Near m a → Near n b → Near (m * n) (a *ℤ b)
-near_mul {a} {b} p q = record { size = rw (abs-mul a b) (mul-le-mul p.size q.size) }
+pub near-mul : {a b : ℤ} {m n : ℕ} → Near m a → Near n b → Near (m * n) (a *ℤ b)
+near-mul {a} {b} p q = record { size = rw (abs-mul a b) (mul-le-mul p.size q.size) }
 
-pub near_add : {a b : ℤ} {m n : ℕ} → Near m a → Near n b → Near (m + n) (a +ℤ b)
-near_add p q = record { size = omega (arith, ints) }
+pub near-add : {a b : ℤ} {m n : ℕ} → Near m a → Near n b → Near (m + n) (a +ℤ b)
+near-add p q = record { size = omega (arith, ints) }
 
-pub near_sub : {a b : ℤ} {m n : ℕ} → Near m a → Near n b → Near (m + n) (a -ℤ b)
-near_sub p q = record { size = omega (arith, ints) }
+pub near-sub : {a b : ℤ} {m n : ℕ} → Near m a → Near n b → Near (m + n) (a -ℤ b)
+near-sub p q = record { size = omega (arith, ints) }
 
 -- w is the width that the code computes at
 pub record Exact (w : Width) (B : ℕ) (z raw : ℤ) : Type 0 where
@@ -32,41 +32,35 @@ value {w} {B} {z} p t =
 
 pub times : {w : Width} {m n : ℕ} {x y a b : ℤ} → Exact w m x a → Exact w n y b → T (ltb (m * n) (2 ^ hbits w)) → Exact w (m * n) (x *ℤ y) (to_z w (of_z w (a *ℤ b)))
 times {w} {m} {n} {x} {y} {a} {b} e f t =
-    let g : Exact w (m * n) (x *ℤ y) (a *ℤ b) = record { same = λ i. e.same i *ℤ f.same i; near = near_mul e.near f.near } in
+    let g : Exact w (m * n) (x *ℤ y) (a *ℤ b) = record { same = λ i. e.same i *ℤ f.same i; near = near-mul e.near f.near } in
     record { same = to_z-of_z (fits g t) ∙ g.same; near = g.near }
 
 pub plus : {w : Width} {m n : ℕ} {x y a b : ℤ} → Exact w m x a → Exact w n y b → T (ltb (m + n) (2 ^ hbits w)) → Exact w (m + n) (x +ℤ y) (to_z w (of_z w (a +ℤ b)))
 plus {w} {m} {n} {x} {y} {a} {b} e f t =
-    let g : Exact w (m + n) (x +ℤ y) (a +ℤ b) = record { same = λ i. e.same i +ℤ f.same i; near = near_add e.near f.near } in
+    let g : Exact w (m + n) (x +ℤ y) (a +ℤ b) = record { same = λ i. e.same i +ℤ f.same i; near = near-add e.near f.near } in
     record { same = to_z-of_z (fits g t) ∙ g.same; near = g.near }
 
 pub less : {w : Width} {m n : ℕ} {x y a b : ℤ} → Exact w m x a → Exact w n y b → T (ltb (m + n) (2 ^ hbits w)) → Exact w (m + n) (x -ℤ y) (to_z w (of_z w (a -ℤ b)))
 less {w} {m} {n} {x} {y} {a} {b} e f t =
-    let g : Exact w (m + n) (x -ℤ y) (a -ℤ b) = record { same = λ i. e.same i -ℤ f.same i; near = near_sub e.near f.near } in
+    let g : Exact w (m + n) (x -ℤ y) (a -ℤ b) = record { same = λ i. e.same i -ℤ f.same i; near = near-sub e.near f.near } in
     record { same = to_z-of_z (fits g t) ∙ g.same; near = g.near }
 
 -- the operation itself fits: what a need asks before it is stored
 pub times-fits : {w : Width} {m n : ℕ} {x y a b : ℤ} → Exact w m x a → Exact w n y b → T (ltb (m * n) (2 ^ hbits w)) → SFits w (a *ℤ b)
 times-fits {w} {m} {n} {x} {y} {a} {b} e f t =
-    let g : Exact w (m * n) (x *ℤ y) (a *ℤ b) = record { same = λ i. e.same i *ℤ f.same i; near = near_mul e.near f.near } in fits g t
+    let g : Exact w (m * n) (x *ℤ y) (a *ℤ b) = record { same = λ i. e.same i *ℤ f.same i; near = near-mul e.near f.near } in fits g t
 
 pub plus-fits : {w : Width} {m n : ℕ} {x y a b : ℤ} → Exact w m x a → Exact w n y b → T (ltb (m + n) (2 ^ hbits w)) → SFits w (a +ℤ b)
 plus-fits {w} {m} {n} {x} {y} {a} {b} e f t =
-    let g : Exact w (m + n) (x +ℤ y) (a +ℤ b) = record { same = λ i. e.same i +ℤ f.same i; near = near_add e.near f.near } in fits g t
+    let g : Exact w (m + n) (x +ℤ y) (a +ℤ b) = record { same = λ i. e.same i +ℤ f.same i; near = near-add e.near f.near } in fits g t
 
 pub less-fits : {w : Width} {m n : ℕ} {x y a b : ℤ} → Exact w m x a → Exact w n y b → T (ltb (m + n) (2 ^ hbits w)) → SFits w (a -ℤ b)
 less-fits {w} {m} {n} {x} {y} {a} {b} e f t =
-    let g : Exact w (m + n) (x -ℤ y) (a -ℤ b) = record { same = λ i. e.same i -ℤ f.same i; near = near_sub e.near f.near } in fits g t
-
-pub is : {w : Width} {B : ℕ} {z raw : ℤ} → Exact w B z raw → raw ≡ z
-is e = e.same
+    let g : Exact w (m + n) (x -ℤ y) (a -ℤ b) = record { same = λ i. e.same i -ℤ f.same i; near = near-sub e.near f.near } in fits g t
 
 -- the product of two arguments
 pub product : {w : Width} {m n : ℕ} {a b : ℤ} → Near m a → Near n b → T (ltb m (2 ^ hbits w)) → T (ltb n (2 ^ hbits w)) → T (ltb (m * n) (2 ^ hbits w)) → Exact w (m * n) (a *ℤ b) (to_z w (of_z w (to_z w (of_z w a) *ℤ to_z w (of_z w b))))
 product p q s t u = times (value p s) (value q t) u
-
-pub product-fits : {w : Width} {m n : ℕ} {a b : ℤ} → Near m a → Near n b → T (ltb m (2 ^ hbits w)) → T (ltb n (2 ^ hbits w)) → T (ltb (m * n) (2 ^ hbits w)) → SFits w (to_z w (of_z w a) *ℤ to_z w (of_z w b))
-product-fits p q s t u = times-fits (value p s) (value q t) u
 
 -- what a call returned, or a literal: raw is z by an equation in hand
 pub called : {w : Width} {B : ℕ} {z raw : ℤ} → raw ≡ z → Near B z → T (ltb B (2 ^ hbits w)) → Exact w B z (to_z w (of_z w raw))

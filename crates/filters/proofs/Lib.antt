@@ -2,7 +2,7 @@ pub mod Exact
 pub mod Reaches
 pub mod Extents
 pub mod Pairwise
-pub mod Halving
+pub mod Portions
 pub mod Turns
 pub mod Inside
 pub mod Volumes

@@ -23,15 +23,15 @@ max-under x y z = grind (arith, ints)
 min-over : (x y z : ℤ) → lt_z z (int_min x y) ≡ (lt_z z x && lt_z z y)
 min-over x y z = grind (arith, ints)
 
-above_zero : (x y z : ℤ) → z ≡ x -ℤ y → lt_z y x ≡ lt_z (pos 0) z
-above_zero x y z e = grind (arith, ints)
+above-zero : (x y z : ℤ) → z ≡ x -ℤ y → lt_z y x ≡ lt_z (pos 0) z
+above-zero x y z e = grind (arith, ints)
 
 below-zero : (x y z : ℤ) → z ≡ x -ℤ y → lt_z x y ≡ lt_z z (pos 0)
 below-zero x y z e = grind (arith, ints)
 
 module _ (d : V3) where
   over : (p q : V3) → lt_z (dot d q) (dot d p) ≡ above d (p -ᵛ q)
-  over p q = above_zero (dot d p) (dot d q) (dot d (p -ᵛ q)) (dot-minus d p q)
+  over p q = above-zero (dot d p) (dot d q) (dot d (p -ᵛ q)) (dot-minus d p q)
 
   beneath : (p q : V3) → lt_z (dot d p) (dot d q) ≡ below d (p -ᵛ q)
   beneath p q = below-zero (dot d p) (dot d q) (dot d (p -ᵛ q)) (dot-minus d p q)
@@ -77,13 +77,13 @@ swap true false true d = refl
 swap true false false d = refl
 swap false b c d = refl
 
-each_both : {A : Type 0} (f g : A → Bool) (xs : List A) → (list_all f xs && list_all g xs) ≡ list_all (λ x. f x && g x) xs
-each_both f g [] = refl
-each_both f g (x ∷ xs) = swap (f x) (list_all f xs) (g x) (list_all g xs) ∙ ap (λ b. (f x && g x) && b) (each_both f g xs)
+each-both : {A : Type 0} (f g : A → Bool) (xs : List A) → (list_all f xs && list_all g xs) ≡ list_all (λ x. f x && g x) xs
+each-both f g [] = refl
+each-both f g (x ∷ xs) = swap (f x) (list_all f xs) (g x) (list_all g xs) ∙ ap (λ b. (f x && g x) && b) (each-both f g xs)
 
-each_same : {A : Type 0} (f g : A → Bool) → ((x : A) → f x ≡ g x) → (xs : List A) → list_all f xs ≡ list_all g xs
-each_same f g e [] = refl
-each_same f g e (x ∷ xs) = λ i. e x i && each_same f g e xs i
+each-same : {A : Type 0} (f g : A → Bool) → ((x : A) → f x ≡ g x) → (xs : List A) → list_all f xs ≡ list_all g xs
+each-same f g e [] = refl
+each-same f g e (x ∷ xs) = λ i. e x i && each-same f g e xs i
 
 module _ (f : V3 → Bool) where
   abbrev one : (Moving → V3) → List Moving → List Moving → Bool
@@ -92,8 +92,8 @@ module _ (f : V3 → Bool) where
   both : (ms ns : List Moving)
       → (one (λ m. m.start) ms ns && one (λ m. m.end) ms ns) ≡ list_all (λ m. list_all (λ n. f (m.start -ᵛ n.start) && f (m.end -ᵛ n.end)) ns) ms
   both ms ns =
-      each_both (λ m. list_all (λ n. f (m.start -ᵛ n.start)) ns) (λ m. list_all (λ n. f (m.end -ᵛ n.end)) ns) ms
-      ∙ each_same _ _ (λ m. each_both (λ n. f (m.start -ᵛ n.start)) (λ n. f (m.end -ᵛ n.end)) ns) ms
+      each-both (λ m. list_all (λ n. f (m.start -ᵛ n.start)) ns) (λ m. list_all (λ n. f (m.end -ᵛ n.end)) ns) ms
+      ∙ each-same _ _ (λ m. each-both (λ n. f (m.start -ᵛ n.start)) (λ n. f (m.end -ᵛ n.end)) ns) ms
 
   -- the pairs of places are those of the points there
   pub on-places : (g : Moving → V3) (k : Kind) (p a b c : Moving) → all f k (g p) (g a) (g b) (g c) ≡ one g (firsts k p a b c) (seconds k p a b c)

@@ -5,27 +5,27 @@ use Rattle.motion.specs.Vectors.{◌+ᵛ◌, ◌-ᵛ◌, dot, cross}
 use Rattle.motion.specs.declared.shapes.Moving.{Moving}
 use Rattle.motion.specs.declared.shapes.Shape.{Shape}
 use Rattle.motion.specs.Laws.{Valid, Within, InReach}
-use Rattle.filters.specs.Sizes.{Near, Reach}
-use Rattle.filters.proofs.Exact.{near_add, near_sub, near_mul}
+use Rattle.filters.specs.Reaching.{Near, Reach}
+use Rattle.filters.proofs.Exact.{near-add, near-sub, near-mul}
 
 pub wider : {m n : ℕ} {u : V3} → Reach m u → T (leb m n) → Reach n u
 wider {m} {n} p t = let h : m ≤ n = leb→le m n t in record { x = record { size = omega arith }; y = record { size = omega arith }; z = record { size = omega arith } }
 
 pub plus-reach : {m n : ℕ} {u v : V3} → Reach m u → Reach n v → Reach (m + n) (u +ᵛ v)
 unfolding ◌+ᵛ◌
-plus-reach p q = record { x = near_add p.x q.x; y = near_add p.y q.y; z = near_add p.z q.z }
+plus-reach p q = record { x = near-add p.x q.x; y = near-add p.y q.y; z = near-add p.z q.z }
 
 pub minus-reach : {m n : ℕ} {u v : V3} → Reach m u → Reach n v → Reach (m + n) (u -ᵛ v)
 unfolding ◌-ᵛ◌
-minus-reach p q = record { x = near_sub p.x q.x; y = near_sub p.y q.y; z = near_sub p.z q.z }
+minus-reach p q = record { x = near-sub p.x q.x; y = near-sub p.y q.y; z = near-sub p.z q.z }
 
 pub cross-reach : {m n : ℕ} {u v : V3} → Reach m u → Reach n v → Reach (m * n + m * n) (cross u v)
 unfolding cross
-cross-reach p q = record { x = near_sub (near_mul p.y q.z) (near_mul p.z q.y); y = near_sub (near_mul p.z q.x) (near_mul p.x q.z); z = near_sub (near_mul p.x q.y) (near_mul p.y q.x) }
+cross-reach p q = record { x = near-sub (near-mul p.y q.z) (near-mul p.z q.y); y = near-sub (near-mul p.z q.x) (near-mul p.x q.z); z = near-sub (near-mul p.x q.y) (near-mul p.y q.x) }
 
 pub dot-near : {m n : ℕ} {u v : V3} → Reach m u → Reach n v → Near (m * n + m * n + m * n) (dot u v)
 unfolding dot
-dot-near p q = near_add (near_add (near_mul p.x q.x) (near_mul p.y q.y)) (near_mul p.z q.z)
+dot-near p q = near-add (near-add (near-mul p.x q.x) (near-mul p.y q.y)) (near-mul p.z q.z)
 
 -- ---- the points of a test
 pub point-reach : (B C : ℕ) (v : V3) → Within B v → B ≤ C → Reach C v

@@ -5,7 +5,8 @@ use Rattle.motion.specs.declared.shapes.Moving.{Moving}
 use Rattle.motion.specs.declared.shapes.Shape.{Shape}
 
 abbrev pub within : ℕ → V3 → Bool
-within B v = nat_le (unsigned_abs v.x) B && nat_le (unsigned_abs v.y) B && nat_le (unsigned_abs v.z) B
+within B v =
+    nat_le (unsigned_abs v.x) B && nat_le (unsigned_abs v.y) B && nat_le (unsigned_abs v.z) B
 
 abbrev pub in_reach : ℕ → Moving → Bool
 in_reach B m = within B m.start && within B m.end

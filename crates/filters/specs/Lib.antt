@@ -1,4 +1,4 @@
-pub mod Sizes
+pub mod Reaching
 pub mod Spans
 pub mod Boxes
 pub mod Slabs

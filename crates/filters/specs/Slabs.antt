@@ -7,7 +7,8 @@ use Rattle.filters.specs.declared.spans.Sides.{Sides}
 use Rattle.filters.specs.Spans.{spot, sides}
 
 abbrev pub sides_along : V3 → Kind → V3 → V3 → V3 → V3 → Sides
-sides_along d k p a b c = sides k (spot (dot d p)) (spot (dot d a)) (spot (dot d b)) (spot (dot d c))
+sides_along d k p a b c =
+    sides k (spot (dot d p)) (spot (dot d a)) (spot (dot d b)) (spot (dot d c))
 
 abbrev pub start_sides : V3 → Shape → Sides
 start_sides d t = sides_along d t.kind t.p.start t.a.start t.b.start t.c.start

@@ -27,4 +27,6 @@ parted s = under s.first s.second || under s.second s.first
 
 -- at the start s and at the end e alike, the same one lies under the other
 abbrev pub stay_parted : Sides → Sides → Bool
-stay_parted s e = (under s.second s.first && under e.second e.first) || (under s.first s.second && under e.first e.second)
+stay_parted s e =
+    (under s.second s.first && under e.second e.first)
+    || (under s.first s.second && under e.first e.second)

@@ -1,5 +1,5 @@
 // Striking at a depth.
-ghost use Rattle.std.specs.Prelude.{◌≡◌, ◌+◌, ◌≤◌, true, leb, if◌then◌else◌, Some, None, nat_le};
+ghost use Rattle.std.specs.Prelude.{◌≡◌, ◌+◌, ◌≤◌, true, if◌then◌else◌, Some, None, nat_le};
 ghost use Rattle.motion.specs.Depths.{struck_at, Struck};
 
 use crate::filter::Filter;
@@ -9,7 +9,9 @@ use crate::tests::Test;
 ///
 /// A test that is struck stays apart for the whole step, and is struck at every greater depth (`laws`).
 pub fn struck_at<F: Filter>(filter: &F, test: &Test, depth: u8) -> Option<bool>
-    ensures answer { result ≡ (if leb (test.now.shape.scale + depth) 6 then Some (struck_at (F.Filter.struck filter.now) depth test.now.shape) else None) }
+    ensures answer { let set = F.Filter.struck filter.now in
+        let t = test.now.shape in
+        result ≡ (if nat_le (t.scale + depth) 6 then Some (struck_at set depth t) else None) }
     ensures laws { result ≡ Some true → Struck (F.Filter.struck filter.now) depth test.now.shape }
 {
     if !has_room(test.shape.scale, depth) {
@@ -26,6 +28,7 @@ pub(crate) fn has_room(scale: u8, depth: u8) -> bool
 }
 
 /// What is struck whole is struck in every part, so the whole is asked first, and its halves only where it passed.
+#[cycle(striking)]
 pub(crate) fn struck<F: Filter>(filter: &F, test: &Test, depth: u8) -> bool
     requires { test.now.shape.scale + depth ≤ 6 }
     ensures { result ≡ struck_at (F.Filter.struck filter.now) depth test.now.shape }
@@ -36,10 +39,15 @@ pub(crate) fn struck<F: Filter>(filter: &F, test: &Test, depth: u8) -> bool
     if depth == 0 {
         return false;
     }
-    let first = test.first_half();
-    if !struck(filter, &first, depth - 1) {
-        return false;
-    }
-    let last = test.last_half();
-    struck(filter, &last, depth - 1)
+    are_halves_struck(filter, test, depth - 1)
+}
+
+/// Apart from `struck`, so that a test that is struck whole makes no room for halves.
+#[cycle(striking)]
+#[tactic(auto, using(crate::proofs::Turns::halves_step))]
+fn are_halves_struck<F: Filter>(filter: &F, test: &Test, depth: u8) -> bool
+    requires { test.now.shape.scale + depth ≤ 5 }
+    ensures { result ≡ struck_at (F.Filter.struck filter.now) (depth + 1) test.now.shape }
+{
+    struck(filter, &test.first_half(), depth) && struck(filter, &test.last_half(), depth)
 }

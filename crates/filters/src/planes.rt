@@ -1,9 +1,8 @@
 // The filter Plane: the point never comes into the plane of the face, nor one edge into a plane with the other.
-ghost use Rattle.std.specs.Prelude.{◌≡◌, ◌*◌, ◌^◌, pos, ◌+ℤ◌, ◌*ℤ◌};
-ghost use Rattle.motion.specs.Vectors.{◌+ᵛ◌, ◌-ᵛ◌, dot};
-ghost use Rattle.motion.specs.Plane.{normal, turned, combined, controls, all_above, all_below, one_sign, plane_set};
+ghost use Rattle.std.specs.Prelude.{◌≡◌, ◌*◌, ◌^◌};
+ghost use Rattle.motion.specs.Plane.{d0, d1, n0, n1, 2n̂, normal, combined, controls, all_above, all_below, one_sign, plane_set};
 ghost use Rattle.motion.proofs.PlaneLaws.{plane-lawful};
-ghost use Rattle.filters.specs.Sizes.{Near, Reach, Small};
+ghost use Rattle.filters.specs.Reaching.{Reach, Small};
 
 use crate::filter::Filter;
 use crate::tests::Test;
@@ -29,139 +28,84 @@ pub fn controls(test: &Test) -> Controls
     ensures value { result ≡ controls test.now.shape }
     ensures size { Small result }
 {
-    let t = test.shape;
-    let d0 = edge(t.a.start, t.p.start);
-    let d1 = edge(t.a.end, t.p.end);
-    let n0 = normal(t.a.start, t.b.start, t.c.start);
-    let n1 = normal(t.a.end, t.b.end, t.c.end);
-    let n = between(n0, n1, turn(test));
-    combine(d0, d1, n0, n1, n)
+    Factors::of(test).combined()
 }
 
-/// The control values of the two ways, the normals and the normal between.
-fn combine(d0: V3, d1: V3, n0: V3, n1: V3, n: V3) -> Controls
-    requires start { (Reach (2 ^ 19) d0) × (Reach (2 ^ 39) n0) }
-    requires end { (Reach (2 ^ 19) d1) × (Reach (2 ^ 39) n1) }
-    requires between { Reach (3 * 2 ^ 40) n }
-    ensures { result ≡ combined d0 d1 n0 n1 n }
-{
-    Controls {
-        g0: outer(d0, n0),
-        g1: inner(d0, n, d1, n0),
-        g2: inner(d1, n, d0, n1),
-        g3: outer(d1, n1),
+/// What the control values are made of: the point seen from the face at the start and at the end, the face's normals there, and twice
+/// the normal between. Each is as short as the bounds of a test make it.
+#[derive(Clone, Copy)]
+struct Factors {
+    d0: V3,
+    d1: V3,
+    n0: V3,
+    n1: V3,
+    between: V3,
+    ghost start: { Reach (2 ^ 19) d0 × Reach (2 ^ 39) n0 },
+    ghost end: { Reach (2 ^ 19) d1 × Reach (2 ^ 39) n1 },
+    ghost middle: { Reach (3 * 2 ^ 40) between },
+}
+
+impl Factors {
+    fn of(test: &Test) -> Factors
+        ensures d0 { result.d0 ≡ d0 test.now.shape }
+        ensures d1 { result.d1 ≡ d1 test.now.shape }
+        ensures n0 { result.n0 ≡ n0 test.now.shape }
+        ensures n1 { result.n1 ≡ n1 test.now.shape }
+        ensures between { result.between ≡ 2n̂ test.now.shape }
+    {
+        let t = test.shape;
+        let n0 = normal(t.a.start, t.b.start, t.c.start);
+        let n1 = normal(t.a.end, t.b.end, t.c.end);
+        let of_moves = normal(
+            minus(t.a.end, t.a.start),
+            minus(t.b.end, t.b.start),
+            minus(t.c.end, t.c.start),
+        );
+        Factors {
+            d0: minus(t.p.start, t.a.start),
+            d1: minus(t.p.end, t.a.end),
+            n0,
+            n1,
+            between: minus(plus(n0, n1), of_moves),
+        }
+    }
+
+    /// Both terms of a value between are whole, and nothing is divided.
+    fn combined(self) -> Controls
+        ensures { result ≡ combined self.d0 self.d1 self.n0 self.n1 self.between }
+    {
+        Controls {
+            g0: 3 * dot(self.d0, self.n0),
+            g1: dot(self.d0, self.between) + dot(self.d1, self.n0),
+            g2: dot(self.d1, self.between) + dot(self.d0, self.n1),
+            g3: 3 * dot(self.d1, self.n1),
+        }
     }
 }
 
-/// A control value at the start or at the end.
-fn outer(d: V3, n: V3) -> i64
-    requires way { Reach (2 ^ 19) d }
-    requires normal { Reach (2 ^ 39) n }
-    ensures { result ≡ pos 3 *ℤ dot d n }
+/// Across the triangle a, b, c.
+fn normal(a: V3, b: V3, c: V3) -> V3
+    requires { (Reach (2 ^ 19) a) × (Reach (2 ^ 19) b) × (Reach (2 ^ 19) c) }
+    ensures { result ≡ normal a b c }
 {
-    triple(volume(d, n))
-}
-
-/// A control value between, with the normal between and a normal at the other time.
-fn inner(d: V3, between: V3, other: V3, n: V3) -> i64
-    requires first { (Reach (2 ^ 19) d) × (Reach (3 * 2 ^ 40) between) }
-    requires second { (Reach (2 ^ 19) other) × (Reach (2 ^ 39) n) }
-    ensures { result ≡ dot d between +ℤ dot other n }
-{
-    sum(mixed_volume(d, between), volume(other, n))
-}
-
-fn triple(volume: i64) -> i64
-    requires { Near (3 * 2 ^ 58) volume }
-    ensures { result ≡ pos 3 *ℤ volume }
-{
-    3 * volume
-}
-
-/// Both terms whole, and nothing divided.
-fn sum(mixed: i64, volume: i64) -> i64
-    requires first { Near (9 * 2 ^ 59) mixed }
-    requires second { Near (3 * 2 ^ 58) volume }
-    ensures { result ≡ mixed +ℤ volume }
-{
-    mixed + volume
+    cross(minus(b, a), minus(c, a))
 }
 
 /// All four above zero, or all below: a zero agrees with nothing.
 fn one_sign(g: Controls) -> bool
     ensures { result ≡ one_sign g }
 {
-    all_above(g) || all_below(g)
+    all_above(g) | all_below(g)
 }
 
 fn all_above(g: Controls) -> bool
     ensures { result ≡ all_above g }
 {
-    g.g0 > 0 && g.g1 > 0 && g.g2 > 0 && g.g3 > 0
+    (g.g0 > 0) & (g.g1 > 0) & (g.g2 > 0) & (g.g3 > 0)
 }
 
 fn all_below(g: Controls) -> bool
     ensures { result ≡ all_below g }
 {
-    g.g0 < 0 && g.g1 < 0 && g.g2 < 0 && g.g3 < 0
-}
-
-/// The way from one point to another.
-fn edge(from: V3, to: V3) -> V3
-    requires here { Reach (2 ^ 19) from }
-    requires there { Reach (2 ^ 19) to }
-    ensures { result ≡ to -ᵛ from }
-{
-    minus(to, from)
-}
-
-/// Across the triangle a, b, c.
-fn normal(a: V3, b: V3, c: V3) -> V3
-    requires first { Reach (2 ^ 19) a }
-    requires second { Reach (2 ^ 19) b }
-    requires third { Reach (2 ^ 19) c }
-    ensures { result ≡ normal a b c }
-{
-    cross(edge(a, b), edge(a, c))
-}
-
-/// The same of the moves of a test's face.
-fn turn(test: &Test) -> V3
-    ensures { result ≡ turned test.now.shape }
-{
-    let t = test.shape;
-    let a = edge(t.a.start, t.a.end);
-    let b = edge(t.b.start, t.b.end);
-    let c = edge(t.c.start, t.c.end);
-    normal(a, b, c)
-}
-
-/// Twice the normal between two.
-fn between(start: V3, end: V3, turn: V3) -> V3
-    requires first { Reach (2 ^ 39) start }
-    requires second { Reach (2 ^ 39) end }
-    requires third { Reach (2 ^ 41) turn }
-    ensures value { result ≡ start +ᵛ end -ᵛ turn }
-    ensures size { Reach (3 * 2 ^ 40) result }
-{
-    minus(plus(start, end), turn)
-}
-
-fn volume(d: V3, n: V3) -> i64
-    requires way { Reach (2 ^ 19) d }
-    requires normal { Reach (2 ^ 39) n }
-    ensures value { result ≡ dot d n }
-    ensures size { Near (3 * 2 ^ 58) result }
-{
-    dot(d, n)
-}
-
-/// The same with the normal between, which is longer.
-fn mixed_volume(d: V3, n: V3) -> i64
-    requires way { Reach (2 ^ 19) d }
-    requires normal { Reach (3 * 2 ^ 40) n }
-    ensures value { result ≡ dot d n }
-    ensures size { Near (9 * 2 ^ 59) result }
-{
-    dot(d, n)
+    (g.g0 < 0) & (g.g1 < 0) & (g.g2 < 0) & (g.g3 < 0)
 }

@@ -1,7 +1,7 @@
 // Two filters in a row, and the row that is delivered.
 ghost use Rattle.std.specs.Prelude.{◌≡◌};
 ghost use Rattle.motion.specs.Rows.{row, delivered};
-ghost use Rattle.motion.proofs.RowLaws.{row_lawful};
+ghost use Rattle.motion.proofs.RowLaws.{row-lawful};
 
 use crate::boxes::BoxFilter;
 use crate::filter::Filter;
@@ -19,7 +19,7 @@ pub struct Row<A, B> {
 impl<A: Filter, B: Filter> Filter for Row<A, B> {
     ghost struck = { λ f. row (A.Filter.struck f.first) (B.Filter.struck f.second) };
 
-    ghost lawful = { λ f. row_lawful (A.Filter.lawful f.first) (B.Filter.lawful f.second) };
+    ghost lawful = { λ f. row-lawful (A.Filter.lawful f.first) (B.Filter.lawful f.second) };
 
     fn strikes(&self, test: &Test) -> bool {
         self.first.strikes(test) || self.second.strikes(test)

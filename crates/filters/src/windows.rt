@@ -1,5 +1,5 @@
 // The window at a depth.
-ghost use Rattle.std.specs.Prelude.{◌≡◌, ◌+◌, ◌^◌, ◌<◌, ◌≤◌, leb, if◌then◌else◌, Some, None, IfSome};
+ghost use Rattle.std.specs.Prelude.{◌≡◌, ◌+◌, ◌^◌, ◌<◌, ◌≤◌, nat_le, if◌then◌else◌, Some, None, IfSome};
 ghost use Rattle.std.specs.Option.{option_map, option_zip};
 ghost use Rattle.motion.specs.Depths.{first_passed, last_passed, window_at};
 
@@ -10,7 +10,9 @@ use crate::tests::Test;
 /// The first and the last of the 2^depth subintervals that the filter passes, or none where it strikes each; no answer where the scale and the
 /// depth pass 6 together.
 pub fn window_at<F: Filter>(filter: &F, test: &Test, depth: u8) -> Option<Option<(u8, u8)>>
-    ensures { result ≡ (if leb (test.now.shape.scale + depth) 6 then Some (window_at (F.Filter.struck filter.now) depth test.now.shape) else None) }
+    ensures { let set = F.Filter.struck filter.now in
+        let t = test.now.shape in
+        result ≡ (if nat_le (t.scale + depth) 6 then Some (window_at set depth t) else None) }
 {
     if !has_room(test.shape.scale, depth) {
         return None;

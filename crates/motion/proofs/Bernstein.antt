@@ -2,7 +2,7 @@
 use Rattle.std.proofs.Common.{◌≡◌, ℕ, zero, suc, ◌+◌, ◌*◌, ◌^◌, ◌≤◌, T, ltb, [], ◌∷◌, ℤ, pos, negsuc, ◌+ℤ◌, ◌*ℤ◌, neg_ℤ, nat_abs, ◌≤ℤ◌, ◌<ℤ◌, ap, ◌∙◌, subst, inl, inr, pow-suc, arith, ltb→lt}
 use native.Mathlib.Nat.{pow-zero}
 use borrow.Author.Differences.{ints}
-use Rattle.motion.proofs.Determinants.{Triple, det, along, det_of, G0, G1, G2, G3, Above, One-sign}
+use Rattle.motion.proofs.Determinants.{Triple, det, along, det_of, G0, G1, G2, G3, Above, IsOneSigned}
 use Rattle.motion.proofs.Ring.{Exp, var, con, ◌⊕◌, ◌⊗◌, ring}
 use Rattle.motion.proofs.Expressions.{det_ofᵉ, alongᵉ, G0ᵉ, G1ᵉ, G2ᵉ, G3ᵉ, moving, S, E}
 
@@ -53,15 +53,15 @@ times3-le g n h =
     subst (λ (x : ℤ). x ≤ℤ neg_ℤ (pos (3 * n))) (ring (g ∷ pos n ∷ []) (var 0 ⊗ (con (pos 3) ⊗ var 1)) (con (pos 3) ⊗ var 0 ⊗ var 1) tt) (times-le g (3 * n) h)
 
 -- the sum, with no product in sight: `omega` meets a bound of its own where it has all of these products to look into
-four_below : (x a b c d : ℤ) (k l m n : ℕ) → x ≡ a +ℤ b +ℤ c +ℤ d → a ≤ℤ neg_ℤ (pos k) → b ≤ℤ neg_ℤ (pos l) → c ≤ℤ neg_ℤ (pos m) → d ≤ℤ neg_ℤ (pos n) → x ≤ℤ neg_ℤ (pos (k + l + m + n))
-four_below x a b c d k l m n e ha hb hc hd = omega (arith, ints)
+four-below : (x a b c d : ℤ) (k l m n : ℕ) → x ≡ a +ℤ b +ℤ c +ℤ d → a ≤ℤ neg_ℤ (pos k) → b ≤ℤ neg_ℤ (pos l) → c ≤ℤ neg_ℤ (pos m) → d ≤ℤ neg_ℤ (pos n) → x ≤ℤ neg_ℤ (pos (k + l + m + n))
+four-below x a b c d k l m n e ha hb hc hd = omega (arith, ints)
 
-size_below : (d : ℤ) (n : ℕ) → (pos 3 *ℤ d) ≤ℤ neg_ℤ (pos n) → n ≤ 3 * nat_abs d
-size_below d n h = omega (arith, ints)
+size-below : (d : ℤ) (n : ℕ) → (pos 3 *ℤ d) ≤ℤ neg_ℤ (pos n) → n ≤ 3 * nat_abs d
+size-below d n h = omega (arith, ints)
 
-pub never-flat : (s e : Triple) (r p : ℕ) → One-sign s e → (r + p) ^ 3 ≤ 3 * nat_abs (det_of (along (pos r) (pos p) s e))
+pub never-flat : (s e : Triple) (r p : ℕ) → IsOneSigned s e → (r + p) ^ 3 ≤ 3 * nat_abs (det_of (along (pos r) (pos p) s e))
 never-flat s e r p (inl h) = omega (arith, ints, apart-at s e r p h)
 never-flat s e r p (inr h) =
-    rw (cube-of-sum r p) (size_below (det_of (along (pos r) (pos p) s e)) _
-    (four_below (pos 3 *ℤ det_of (along (pos r) (pos p) s e)) _ _ _ _ (r * r * r) (3 * (p * (r * r))) (3 * (p * p * r)) (p * p * p) (bernstein s e (pos r) (pos p))
+    rw (cube-of-sum r p) (size-below (det_of (along (pos r) (pos p) s e)) _
+    (four-below (pos 3 *ℤ det_of (along (pos r) (pos p) s e)) _ _ _ _ (r * r * r) (3 * (p * (r * r))) (3 * (p * p * r)) (p * p * p) (bernstein s e (pos r) (pos p))
     (times-le (G0 s e) (r * r * r) h.at0) (times3-le (G1 s e) (p * (r * r)) h.at1) (times3-le (G2 s e) (p * p * r) h.at2) (times-le (G3 s e) (p * p * p) h.at3)))

@@ -17,10 +17,10 @@ use Rattle.motion.specs.Laws.{Valid, Within, Apart, Lawful, at, after, portion, 
 use Rattle.motion.specs.Box.{greatest, least, coordinates, under, parted_on, box_set}
 use Rattle.motion.proofs.Ring.{Exp, var, con, ◌⊕◌, ◌⊗◌, ◌⊖◌, ring}
 use Rattle.motion.proofs.Expressions.{◌+ᵉ◌, ◌-ᵉ◌, ◌·ᵉ◌, dotᵉ, vars, put}
-use Rattle.motion.proofs.Alls.{All, all_map}
+use Rattle.motion.proofs.Members.{Each, each-map}
 use Rattle.motion.proofs.Separating.{Beyonds, beyonds-apart, opposite, opposite-dot, opposite-within}
 use Rattle.motion.proofs.SlabLaws.{ones-of, others-of}
-use Rattle.motion.proofs.RowLaws.{row_lawful}
+use Rattle.motion.proofs.RowLaws.{row-lawful}
 
 -- an axis is the product with a short direction
 pub record Axis (axis : V3 → ℤ) : Type 0 where
@@ -70,8 +70,8 @@ module _ (d : V3) (m : Moving) where
   unfolding dot ◌+ᵛ◌ ◌·ᵛ◌ at after
   dot-end = ring ρ (mixedᵉ (pos 0) (pos 2)) (dotᵉ (vars 0) (vars 6) ⊕ dotᵉ (vars 0) (vars 6)) tt
 
-sum_below : (x y g z : ℤ) → z ≡ x +ℤ y → x ≤ℤ g → y ≤ℤ g → z ≤ℤ (g +ℤ g)
-sum_below x y g z e p q = omega (arith, ints)
+sum-below : (x y g z : ℤ) → z ≡ x +ℤ y → x ≤ℤ g → y ≤ℤ g → z ≤ℤ (g +ℤ g)
+sum-below x y g z e p q = omega (arith, ints)
 
 sum-above : (x y g z : ℤ) → z ≡ x +ℤ y → g ≤ℤ x → g ≤ℤ y → (g +ℤ g) ≤ℤ z
 sum-above x y g z e p q = omega (arith, ints)
@@ -90,13 +90,13 @@ module _ (axis : V3 → ℤ) where
   abbrev Above : ℤ → Moving → Type 0
   Above z m = (z ≤ℤ axis m.start) × (z ≤ℤ axis m.end)
 
-  all-below : (ms : List Moving) → All (Below (G ms)) ms
+  all-below : (ms : List Moving) → Each (Below (G ms)) ms
   all-below [] = tt
   all-below (m ∷ []) = (last (axis m.start) (axis m.end), tt)
     where
       last : (s e : ℤ) → (s ≤ℤ int_max s e) × (e ≤ℤ int_max s e)
       last s e = (omega (arith, ints, clamps), omega (arith, ints, clamps))
-  all-below (m ∷ n ∷ ms) = (here (axis m.start) (axis m.end) (G (n ∷ ms)), all_map (λ k b. (more (axis m.start) (axis m.end) (G (n ∷ ms)) _ b.0, more (axis m.start) (axis m.end) (G (n ∷ ms)) _ b.1)) (n ∷ ms) (all-below (n ∷ ms)))
+  all-below (m ∷ n ∷ ms) = (here (axis m.start) (axis m.end) (G (n ∷ ms)), each-map (λ k b. (more (axis m.start) (axis m.end) (G (n ∷ ms)) _ b.0, more (axis m.start) (axis m.end) (G (n ∷ ms)) _ b.1)) (n ∷ ms) (all-below (n ∷ ms)))
     where
       here : (s e g : ℤ) → (s ≤ℤ int_max s (int_max e g)) × (e ≤ℤ int_max s (int_max e g))
       here s e g = (omega (arith, ints, clamps), omega (arith, ints, clamps))
@@ -104,13 +104,13 @@ module _ (axis : V3 → ℤ) where
       more : (s e g z : ℤ) → z ≤ℤ g → z ≤ℤ int_max s (int_max e g)
       more s e g z h = omega (arith, ints, clamps)
 
-  all_above : (ms : List Moving) → All (Above (L ms)) ms
-  all_above [] = tt
-  all_above (m ∷ []) = (last (axis m.start) (axis m.end), tt)
+  all-above : (ms : List Moving) → Each (Above (L ms)) ms
+  all-above [] = tt
+  all-above (m ∷ []) = (last (axis m.start) (axis m.end), tt)
     where
       last : (s e : ℤ) → (int_min s e ≤ℤ s) × (int_min s e ≤ℤ e)
       last s e = (omega (arith, ints, clamps), omega (arith, ints, clamps))
-  all_above (m ∷ n ∷ ms) = (here (axis m.start) (axis m.end) (L (n ∷ ms)), all_map (λ k b. (more (axis m.start) (axis m.end) (L (n ∷ ms)) _ b.0, more (axis m.start) (axis m.end) (L (n ∷ ms)) _ b.1)) (n ∷ ms) (all_above (n ∷ ms)))
+  all-above (m ∷ n ∷ ms) = (here (axis m.start) (axis m.end) (L (n ∷ ms)), each-map (λ k b. (more (axis m.start) (axis m.end) (L (n ∷ ms)) _ b.0, more (axis m.start) (axis m.end) (L (n ∷ ms)) _ b.1)) (n ∷ ms) (all-above (n ∷ ms)))
     where
       here : (s e g : ℤ) → (int_min s (int_min e g) ≤ℤ s) × (int_min s (int_min e g) ≤ℤ e)
       here s e g = (omega (arith, ints, clamps), omega (arith, ints, clamps))
@@ -126,7 +126,7 @@ module _ (axis : V3 → ℤ) (a : Axis axis) where
   -- ns lies below ms
   over : (ms ns : List Moving) → under axis ns ms ≡ true → Beyonds a.way ms ns
   over ms ns h =
-      all_map (λ m p. all_map (λ n q. record { at-start = beyond m.start n.start q.0 p.0; at-end = beyond m.end n.end q.1 p.1 }) ns (all-below axis ns)) ms (all_above axis ms)
+      each-map (λ m p. each-map (λ n q. record { at-start = beyond m.start n.start q.0 p.0; at-end = beyond m.end n.end q.1 p.1 }) ns (all-below axis ns)) ms (all-above axis ms)
     where
       larger : (g l x y z : ℤ) → lt_z g l ≡ true → z ≡ x -ℤ y → y ≤ℤ g → l ≤ℤ x → pos 0 <ℤ z
       larger g l x y z h e p q = omega (arith, ints)
@@ -136,7 +136,7 @@ module _ (axis : V3 → ℤ) (a : Axis axis) where
 
   beneath : (ms ns : List Moving) → under axis ms ns ≡ true → Beyonds (opposite a.way) ms ns
   beneath ms ns h =
-      all_map (λ m p. all_map (λ n q. record { at-start = beyond m.start n.start p.0 q.0; at-end = beyond m.end n.end p.1 q.1 }) ns (all_above axis ns)) ms (all-below axis ms)
+      each-map (λ m p. each-map (λ n q. record { at-start = beyond m.start n.start p.0 q.0; at-end = beyond m.end n.end p.1 q.1 }) ns (all-above axis ns)) ms (all-below axis ms)
     where
       larger : (g l x y z w : ℤ) → lt_z g l ≡ true → w ≡ neg_ℤ z → z ≡ x -ℤ y → x ≤ℤ g → l ≤ℤ y → pos 0 <ℤ w
       larger g l x y z w h f e p q = omega (arith, ints)
@@ -168,14 +168,14 @@ module _ (axis : V3 → ℤ) (a : Axis axis) where
 
   first-half : Half (portion 1 0)
   first-half m g =
-      (λ (s, e). (sum_below _ _ g _ (on-start m) s s, sum_below _ _ g _ (on-middle m) s e), λ (s, e). (sum-above _ _ g _ (on-start m) s s, sum-above _ _ g _ (on-middle m) s e))
+      (λ (s, e). (sum-below _ _ g _ (on-start m) s s, sum-below _ _ g _ (on-middle m) s e), λ (s, e). (sum-above _ _ g _ (on-start m) s s, sum-above _ _ g _ (on-middle m) s e))
 
   last-half : Half (portion 1 1)
   last-half m g =
-      (λ (s, e). (sum_below _ _ g _ (on-middle m) s e, sum_below _ _ g _ (on-end m) e e), λ (s, e). (sum-above _ _ g _ (on-middle m) s e, sum-above _ _ g _ (on-end m) e e))
+      (λ (s, e). (sum-below _ _ g _ (on-middle m) s e, sum-below _ _ g _ (on-end m) e e), λ (s, e). (sum-above _ _ g _ (on-middle m) s e, sum-above _ _ g _ (on-end m) e e))
 
   module _ (h : Moving → Moving) (k : Half h) where
-    greatest-half : (m : Moving) (ms : List Moving) (g : ℤ) → All (Below axis g) (m ∷ ms) → G axis (map h (m ∷ ms)) ≤ℤ (g +ℤ g)
+    greatest-half : (m : Moving) (ms : List Moving) (g : ℤ) → Each (Below axis g) (m ∷ ms) → G axis (map h (m ∷ ms)) ≤ℤ (g +ℤ g)
     greatest-half m [] g (b, _) = let q = (k m g).0 b in two (axis (h m).start) (axis (h m).end) (g +ℤ g) q.0 q.1
       where
         two : (s e g : ℤ) → s ≤ℤ g → e ≤ℤ g → int_max s e ≤ℤ g
@@ -186,7 +186,7 @@ module _ (axis : V3 → ℤ) (a : Axis axis) where
         three : (s e r g : ℤ) → s ≤ℤ g → e ≤ℤ g → r ≤ℤ g → int_max s (int_max e r) ≤ℤ g
         three s e r g p q o = omega (arith, ints, clamps)
 
-    least-half : (m : Moving) (ms : List Moving) (g : ℤ) → All (Above axis g) (m ∷ ms) → (g +ℤ g) ≤ℤ L axis (map h (m ∷ ms))
+    least-half : (m : Moving) (ms : List Moving) (g : ℤ) → Each (Above axis g) (m ∷ ms) → (g +ℤ g) ≤ℤ L axis (map h (m ∷ ms))
     least-half m [] g (b, _) = let q = (k m g).1 b in two (axis (h m).start) (axis (h m).end) (g +ℤ g) q.0 q.1
       where
         two : (s e g : ℤ) → g ≤ℤ s → g ≤ℤ e → g ≤ℤ int_min s e
@@ -199,7 +199,7 @@ module _ (axis : V3 → ℤ) (a : Axis axis) where
 
     under-half : (m : Moving) (ms : List Moving) (n : Moving) (ns : List Moving) → under axis (m ∷ ms) (n ∷ ns) ≡ true → under axis (map h (m ∷ ms)) (map h (n ∷ ns)) ≡ true
     under-half m ms n ns e =
-        doubled (G axis (m ∷ ms)) (L axis (n ∷ ns)) _ _ e (greatest-half m ms (G axis (m ∷ ms)) (all-below axis (m ∷ ms))) (least-half n ns (L axis (n ∷ ns)) (all_above axis (n ∷ ns)))
+        doubled (G axis (m ∷ ms)) (L axis (n ∷ ns)) _ _ e (greatest-half m ms (G axis (m ∷ ms)) (all-below axis (m ∷ ms))) (least-half n ns (L axis (n ∷ ns)) (all-above axis (n ∷ ns)))
       where
         doubled : (g l g' l' : ℤ) → lt_z g l ≡ true → g' ≤ℤ (g +ℤ g) → (l +ℤ l) ≤ℤ l' → lt_z g' l' ≡ true
         doubled g l g' l' e p q = grind (arith, ints)
@@ -241,4 +241,4 @@ pub on-z : Axis z
 on-z = record { way = vector (pos 0) (pos 0) (pos 1); within = search arith; product = product-z }
 
 pub box-lawful : Lawful box_set
-box-lawful = row_lawful (row_lawful (axis-lawful x on-x) (axis-lawful y on-y)) (axis-lawful z on-z)
+box-lawful = row-lawful (row-lawful (axis-lawful x on-x) (axis-lawful y on-y)) (axis-lawful z on-z)

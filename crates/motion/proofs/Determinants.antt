@@ -47,8 +47,8 @@ pub record Below (s e : Triple) : Type 0 where
   pub at2 : G2 s e <ℤ pos 0
   pub at3 : G3 s e <ℤ pos 0
 
-abbrev pub One-sign : Triple → Triple → Type 0
-One-sign s e = Above s e ⊎ Below s e
+abbrev pub IsOneSigned : Triple → Triple → Type 0
+IsOneSigned s e = Above s e ⊎ Below s e
 
 -- ---- between two times
 unfoldable pub sum : Triple → Triple → Triple

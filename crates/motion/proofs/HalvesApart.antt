@@ -11,7 +11,7 @@ use Rattle.motion.specs.Vectors.{◌+ᵛ◌, ◌-ᵛ◌, ◌·ᵛ◌, origin}
 use Rattle.motion.specs.Features.{firsts, seconds, first, second}
 use Rattle.motion.specs.Laws.{Far, on-x, on-y, on-z, Apart, Weights, at, after, portion, half, weighted, total, difference}
 use Rattle.motion.proofs.Ring.{Exp, var, con, ◌⊕◌, ◌⊗◌, ◌⊖◌, ring}
-use Rattle.motion.proofs.Sizes.{abs-mul}
+use Rattle.motion.proofs.Gaps.{abs-mul}
 use Rattle.motion.proofs.SlabLaws.{ones-of, others-of}
 
 -- ---- the same place, on the finer grid

@@ -9,30 +9,30 @@ use Rattle.motion.specs.Laws.{Within, InReach, at}
 use Rattle.motion.proofs.Ring.{var, ring}
 use Rattle.motion.proofs.Expressions.{E3, EFour, ◌+ᵉ◌, ◌·ᵉ◌, relᵉ, alongᵉ, det_ofᵉ, of_shape, S4, E4}
 use Rattle.motion.proofs.Determinants.{det, det_of, along, seen, at_start, at_end}
-use Rattle.motion.proofs.Sizes.{abs-add, abs-sub, abs-mul}
+use Rattle.motion.proofs.Gaps.{abs-add, abs-sub, abs-mul}
 
 unfoldable pub place : ℤ → ℤ → Moving → V3
 place r p m = r ·ᵛ m.start +ᵛ p ·ᵛ m.end
 
-left_over : (r p : ℕ) → pos (r + p) -ℤ pos p ≡ pos r
-left_over r p = omega (arith, ints)
+left-over : (r p : ℕ) → pos (r + p) -ℤ pos p ≡ pos r
+left-over r p = omega (arith, ints)
 
-pub at_place : (r p : ℕ) (m : Moving) → at p (r + p) m ≡ place (pos r) (pos p) m
+pub at-place : (r p : ℕ) (m : Moving) → at p (r + p) m ≡ place (pos r) (pos p) m
 unfolding at place
-at_place r p m = ap (λ (z : ℤ). z ·ᵛ m.start +ᵛ pos p ·ᵛ m.end) (left_over r p)
+at-place r p m = ap (λ (z : ℤ). z ·ᵛ m.start +ᵛ pos p ·ᵛ m.end) (left-over r p)
 
 -- ---- sizes
 pub between : (B r p : ℕ) (s e : ℤ) → nat_abs s ≤ B → nat_abs e ≤ B → nat_abs (pos r *ℤ s +ℤ pos p *ℤ e) ≤ B * (r + p)
 between B r p s e hs he =
     omega (arith, abs-add (pos r *ℤ s) (pos p *ℤ e), abs-mul (pos r) s, abs-mul (pos p) e, mul-le-mul_left r hs, mul-le-mul_left p he)
 
-apart_by : (B C : ℕ) (x y : ℤ) → 2 * B ≡ C → nat_abs x ≤ B → nat_abs y ≤ B → nat_abs (x -ℤ y) ≤ C
-apart_by B C x y e hx hy = omega (arith, abs-sub x y)
+apart-by : (B C : ℕ) (x y : ℤ) → 2 * B ≡ C → nat_abs x ≤ B → nat_abs y ≤ B → nat_abs (x -ℤ y) ≤ C
+apart-by B C x y e hx hy = omega (arith, abs-sub x y)
 
 pub within-minus : (B C : ℕ) (u v : V3) → 2 * B ≡ C → Within B u → Within B v → Within C (u -ᵛ v)
 unfolding ◌-ᵛ◌
 within-minus B C u v e f g =
-    (apart_by B C u.x v.x e f.0 g.0, apart_by B C u.y v.y e f.1 g.1, apart_by B C u.z v.z e f.2 g.2)
+    (apart-by B C u.x v.x e f.0 g.0, apart-by B C u.y v.y e f.1 g.1, apart-by B C u.z v.z e f.2 g.2)
 
 module _ (k r p : ℕ) where
   within-place : (m : Moving) → InReach k m → Within (4096 * 2 ^ k * (r + p)) (place (pos r) (pos p) m)

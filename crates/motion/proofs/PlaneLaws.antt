@@ -11,12 +11,12 @@ use Rattle.motion.specs.Vectors.{◌-ᵛ◌, ◌·ᵛ◌, dot, cross}
 use Rattle.motion.specs.Features.{firsts, seconds, first, second}
 use Rattle.motion.specs.Laws.{Valid, Far, Apart, Lawful, Weights, weighted, total, difference, half}
 use Rattle.motion.specs.Plane.{plane_set, NeverCoplanar, volume_at}
-use Rattle.motion.proofs.Determinants.{det, det_of, seen, at_start, at_end, Above, Below, One-sign, sum}
-use Rattle.motion.proofs.Sizes.{abs-mul, abs_neg, far-by-normal}
+use Rattle.motion.proofs.Determinants.{det, det_of, seen, at_start, at_end, Above, Below, IsOneSigned, sum}
+use Rattle.motion.proofs.Gaps.{abs-mul, abs-neg, far-by-normal}
 use Rattle.motion.proofs.Bernstein.{never-flat}
 use Rattle.motion.proofs.Weights.{face_difference, edge_difference, weighted-face, weighted-edge}
-use Rattle.motion.proofs.Places.{place, at_place, short, on-the-way}
-use Rattle.motion.proofs.Halving.{halves-keep}
+use Rattle.motion.proofs.Places.{place, at-place, short, on-the-way}
+use Rattle.motion.proofs.ControlHalves.{halves-keep}
 use Rattle.motion.proofs.Halves.{minus-start, minus-middle, minus-end}
 use Rattle.motion.proofs.Signs.{one-sign, struck-above, struck-below}
 
@@ -28,7 +28,7 @@ scaled i j c d x h e = omega (arith, mul-le-mul_left (i * j) h)
 sized : (i j : ℕ) (d : ℤ) → nat_abs (pos i *ℤ pos j *ℤ d) ≡ i * j * nat_abs d
 sized i j d = abs-mul (pos (i * j)) d
 
-module _ (t : Shape) (r p : ℕ) (v : Valid t) (hq : 1 ≤ r + p) (sign : One-sign (at_start t) (at_end t)) where
+module _ (t : Shape) (r p : ℕ) (v : Valid t) (hq : 1 ≤ r + p) (sign : IsOneSigned (at_start t) (at_end t)) where
   abbrev here : Moving → V3
   here m = place (pos r) (pos p) m
 
@@ -54,7 +54,7 @@ module _ (t : Shape) (r p : ℕ) (v : Valid t) (hq : 1 ≤ r + p) (sign : One-si
       (short t.scale r p t.p t.a v.1 v.2) (short t.scale r p t.c t.b v.4 v.3)
       (scaled (i + (j + 0)) (k + (l + 0)) ((r + p) ^ 3) volume
       (dot (edge_difference (here t.p) (here t.a) (here t.b) (here t.c) i j k l) (cross (here t.p -ᵛ here t.a) (here t.c -ᵛ here t.b))) large
-      (ap nat_abs (weighted-edge (here t.p) (here t.a) (here t.b) (here t.c) i j k l) ∙ abs_neg (pos (i + (j + 0)) *ℤ pos (k + (l + 0)) *ℤ volume) ∙ sized (i + (j + 0)) (k + (l + 0)) volume))
+      (ap nat_abs (weighted-edge (here t.p) (here t.a) (here t.b) (here t.c) i j k l) ∙ abs-neg (pos (i + (j + 0)) *ℤ pos (k + (l + 0)) *ℤ volume) ∙ sized (i + (j + 0)) (k + (l + 0)) volume))
 
   -- at places, any weights
   abbrev pub between : (Moving → V3) → List ℕ → List Moving → List ℕ → List Moving → V3
@@ -87,7 +87,7 @@ module _ (t : Shape) (r p : ℕ) (v : Valid t) (hq : 1 ≤ r + p) (sign : One-si
       → Far t.scale (total ws * total us * (r + p)) (difference p (r + p) ws (first t) us (second t))
   far-then ws us hw hu =
       subst (λ (f : Moving → V3). Far t.scale (total ws * total us * (r + p)) (between f ws (first t) us (second t)))
-      (λ i m. sym (at_place r p m) i) (all-far t.kind ws us hw hu)
+      (λ i m. sym (at-place r p m) i) (all-far t.kind ws us hw hu)
 
 back : (p q : ℕ) → p ≤ q → q - p + p ≡ q
 back p q h = omega arith
@@ -107,19 +107,19 @@ module _ (t : Shape) where
   unfolding sum seen
   middle = λ i. record { u = minus-middle t.p t.a i; v = minus-middle t.b t.a i; w = minus-middle t.c t.a i }
 
-  last_end : sum (at_end t) (at_end t) ≡ at_end (half 1 t)
+  last-end : sum (at_end t) (at_end t) ≡ at_end (half 1 t)
   unfolding sum seen
-  last_end = λ i. record { u = minus-end t.p t.a i; v = minus-end t.b t.a i; w = minus-end t.c t.a i }
+  last-end = λ i. record { u = minus-end t.p t.a i; v = minus-end t.b t.a i; w = minus-end t.c t.a i }
 
   above-halves : Above (at_start t) (at_end t) → (plane_set (half 0 t) ≡ true) × (plane_set (half 1 t) ≡ true)
   above-halves h =
       let k = (halves-keep (at_start t) (at_end t)).0 h in
-      (struck-above (half 0 t) (transport (λ i. Above (first-start i) (middle i)) k.0), struck-above (half 1 t) (transport (λ i. Above (middle i) (last_end i)) k.1))
+      (struck-above (half 0 t) (transport (λ i. Above (first-start i) (middle i)) k.0), struck-above (half 1 t) (transport (λ i. Above (middle i) (last-end i)) k.1))
 
   below-halves : Below (at_start t) (at_end t) → (plane_set (half 0 t) ≡ true) × (plane_set (half 1 t) ≡ true)
   below-halves h =
       let k = (halves-keep (at_start t) (at_end t)).1 h in
-      (struck-below (half 0 t) (transport (λ i. Below (first-start i) (middle i)) k.0), struck-below (half 1 t) (transport (λ i. Below (middle i) (last_end i)) k.1))
+      (struck-below (half 0 t) (transport (λ i. Below (first-start i) (middle i)) k.0), struck-below (half 1 t) (transport (λ i. Below (middle i) (last-end i)) k.1))
 
   plane-halves : plane_set t ≡ true → (plane_set (half 0 t) ≡ true) × (plane_set (half 1 t) ≡ true)
   plane-halves h = ⊎_elim above-halves below-halves (one-sign t h)
@@ -144,7 +144,7 @@ module _ (t : Shape) (h : plane_set t ≡ true) where
 
   same-volume : (r p : ℕ) → volume_at p (r + p) t ≡ volume_of (place (pos r) (pos p) t.p) (place (pos r) (pos p) t.a) (place (pos r) (pos p) t.b) (place (pos r) (pos p) t.c)
   unfolding seen det
-  same-volume r p = λ i. volume_of (at_place r p t.p i) (at_place r p t.a i) (at_place r p t.b i) (at_place r p t.c i)
+  same-volume r p = λ i. volume_of (at-place r p t.p i) (at-place r p t.a i) (at-place r p t.b i) (at-place r p t.c i)
 
 pub never-coplanar : NeverCoplanar
 never-coplanar t h p q hq hp e =

@@ -96,11 +96,11 @@ is_nil nil = true
 is_nil (term c m p) = false
 
 -- ---- regroupings
-swap_mid : (a b c d : ℤ) → (a +ℤ b) +ℤ (c +ℤ d) ≡ (a +ℤ c) +ℤ (b +ℤ d)
-swap_mid a b c d = omega (arith, same_in, sum_is_lem)
+swap-mid : (a b c d : ℤ) → (a +ℤ b) +ℤ (c +ℤ d) ≡ (a +ℤ c) +ℤ (b +ℤ d)
+swap-mid a b c d = omega (arith, same_in, sum_is_lem)
 
-left_comm : (a b c : ℤ) → b +ℤ (a +ℤ c) ≡ a +ℤ (b +ℤ c)
-left_comm a b c = omega (arith, same_in, sum_is_lem)
+left-comm : (a b c : ℤ) → b +ℤ (a +ℤ c) ≡ a +ℤ (b +ℤ c)
+left-comm a b c = omega (arith, same_in, sum_is_lem)
 
 *-left-comm : (a b c : ℤ) → b *ℤ (a *ℤ c) ≡ a *ℤ (b *ℤ c)
 *-left-comm a b c = sym (*-assoc b a c) ∙ ap (λ x. x *ℤ c) (*ℤ_comm b a) ∙ *-assoc a b c
@@ -109,11 +109,11 @@ left_comm a b c = omega (arith, same_in, sum_is_lem)
 *-swap-mid a b c d = *-assoc a b (c *ℤ d) ∙ ap (λ x. a *ℤ x) (*-left-comm c b d) ∙ sym (*-assoc a c (b *ℤ d))
 
 -- ---- soundness
-cmp_m-same : (m n : List ℕ) → cmp_m m n ≡ Ordering.eq → m ≡ n
-cmp_m-same [] [] e = refl
-cmp_m-same [] (j ∷ n) e = absurd (subst (λ o. T (compare_is_eq o)) (sym e) tt)
-cmp_m-same (i ∷ m) [] e = absurd (subst (λ o. T (compare_is_eq o)) (sym e) tt)
-cmp_m-same (i ∷ m) (j ∷ n) e = go (compare i j) refl (cmp_m-same m n) e
+cmp-m-same : (m n : List ℕ) → cmp_m m n ≡ Ordering.eq → m ≡ n
+cmp-m-same [] [] e = refl
+cmp-m-same [] (j ∷ n) e = absurd (subst (λ o. T (compare_is_eq o)) (sym e) tt)
+cmp-m-same (i ∷ m) [] e = absurd (subst (λ o. T (compare_is_eq o)) (sym e) tt)
+cmp-m-same (i ∷ m) (j ∷ n) e = go (compare i j) refl (cmp-m-same m n) e
   where
     go : (o : Ordering) → compare i j ≡ o → (cmp_m m n ≡ Ordering.eq → m ≡ n)
         → elim o as (λ _. Ordering) [ Ordering.lt ↦ Ordering.lt | Ordering.eq ↦ cmp_m m n | Ordering.gt ↦ Ordering.gt ] ≡ Ordering.eq → (i ∷ m) ≡ (j ∷ n)
@@ -135,10 +135,10 @@ module _ (ρ : List ℤ) where
   front-sound (pos (suc k)) m p = refl
   front-sound (negsuc k) m p = refl
 
-  add_to-sound : (f : Poly → Poly) (c : ℤ) (m : List ℕ) (p : Poly) → ((r : Poly) → eval_p (f r) ≡ eval_p p +ℤ eval_p r) → (q : Poly)
+  add-to-sound : (f : Poly → Poly) (c : ℤ) (m : List ℕ) (p : Poly) → ((r : Poly) → eval_p (f r) ≡ eval_p p +ℤ eval_p r) → (q : Poly)
       → eval_p (add_to f c m p q) ≡ (c *ℤ eval_m m +ℤ eval_p p) +ℤ eval_p q
-  add_to-sound f c m p h nil = sym (+ℤ_idr (c *ℤ eval_m m +ℤ eval_p p))
-  add_to-sound f c m p h (term d n q) = go (cmp_m m n) refl (add_to-sound f c m p h q)
+  add-to-sound f c m p h nil = sym (+ℤ_idr (c *ℤ eval_m m +ℤ eval_p p))
+  add-to-sound f c m p h (term d n q) = go (cmp_m m n) refl (add-to-sound f c m p h q)
     where
       go : (o : Ordering) → cmp_m m n ≡ o → eval_p (add_to f c m p q) ≡ (c *ℤ eval_m m +ℤ eval_p p) +ℤ eval_p q
           → eval_p (elim o as (λ _. Poly) [ Ordering.lt ↦ term c m (f (term d n q)) | Ordering.eq ↦ front (c +ℤ d) m (f q) | Ordering.gt ↦ term d n (add_to f c m p q) ])
@@ -146,17 +146,17 @@ module _ (ρ : List ℤ) where
       go Ordering.lt e ih = ap (λ x. c *ℤ eval_m m +ℤ x) (h (term d n q)) ∙ sym (+ℤ_assoc (c *ℤ eval_m m) (eval_p p) (d *ℤ eval_m n +ℤ eval_p q))
       go Ordering.eq e ih =
           front-sound (c +ℤ d) m (f q) ∙ (λ i. *-distr c d (eval_m m) i +ℤ h q i)
-          ∙ swap_mid (c *ℤ eval_m m) (d *ℤ eval_m m) (eval_p p) (eval_p q)
-          ∙ ap (λ x. (c *ℤ eval_m m +ℤ eval_p p) +ℤ (d *ℤ eval_m x +ℤ eval_p q)) (cmp_m-same m n e)
-      go Ordering.gt e ih = ap (λ x. d *ℤ eval_m n +ℤ x) ih ∙ left_comm (c *ℤ eval_m m +ℤ eval_p p) (d *ℤ eval_m n) (eval_p q)
+          ∙ swap-mid (c *ℤ eval_m m) (d *ℤ eval_m m) (eval_p p) (eval_p q)
+          ∙ ap (λ x. (c *ℤ eval_m m +ℤ eval_p p) +ℤ (d *ℤ eval_m x +ℤ eval_p q)) (cmp-m-same m n e)
+      go Ordering.gt e ih = ap (λ x. d *ℤ eval_m n +ℤ x) ih ∙ left-comm (c *ℤ eval_m m +ℤ eval_p p) (d *ℤ eval_m n) (eval_p q)
 
   add-sound : (p q : Poly) → eval_p (add p q) ≡ eval_p p +ℤ eval_p q
   add-sound nil q = sym (+ℤ_idl (eval_p q))
-  add-sound (term c m p) q = add_to-sound (λ r. add p r) c m p (add-sound p) q
+  add-sound (term c m p) q = add-to-sound (λ r. add p r) c m p (add-sound p) q
 
-  ins_m-sound : (i : ℕ) (m : List ℕ) → eval_m (ins_m i m) ≡ at ρ i *ℤ eval_m m
-  ins_m-sound i [] = refl
-  ins_m-sound i (j ∷ m) = go (compare i j) (ins_m-sound i m)
+  ins-m-sound : (i : ℕ) (m : List ℕ) → eval_m (ins_m i m) ≡ at ρ i *ℤ eval_m m
+  ins-m-sound i [] = refl
+  ins-m-sound i (j ∷ m) = go (compare i j) (ins-m-sound i m)
     where
       go : (o : Ordering) → eval_m (ins_m i m) ≡ at ρ i *ℤ eval_m m
           → eval_m (elim o as (λ _. List ℕ) [ Ordering.lt ↦ i ∷ j ∷ m | Ordering.eq ↦ i ∷ j ∷ m | Ordering.gt ↦ j ∷ ins_m i m ]) ≡ at ρ i *ℤ (at ρ j *ℤ eval_m m)
@@ -164,32 +164,32 @@ module _ (ρ : List ℤ) where
       go Ordering.eq ih = refl
       go Ordering.gt ih = ap (λ x. at ρ j *ℤ x) ih ∙ *-left-comm (at ρ i) (at ρ j) (eval_m m)
 
-  mul_m-sound : (m n : List ℕ) → eval_m (mul_m m n) ≡ eval_m m *ℤ eval_m n
-  mul_m-sound [] n = sym (one-* (eval_m n))
-  mul_m-sound (i ∷ m) n = ins_m-sound i (mul_m m n) ∙ ap (λ x. at ρ i *ℤ x) (mul_m-sound m n) ∙ sym (*-assoc (at ρ i) (eval_m m) (eval_m n))
+  mul-m-sound : (m n : List ℕ) → eval_m (mul_m m n) ≡ eval_m m *ℤ eval_m n
+  mul-m-sound [] n = sym (one-* (eval_m n))
+  mul-m-sound (i ∷ m) n = ins-m-sound i (mul_m m n) ∙ ap (λ x. at ρ i *ℤ x) (mul-m-sound m n) ∙ sym (*-assoc (at ρ i) (eval_m m) (eval_m n))
 
-  mul_t-sound : (c : ℤ) (m : List ℕ) (q : Poly) → eval_p (mul_t c m q) ≡ (c *ℤ eval_m m) *ℤ eval_p q
-  mul_t-sound c m nil = sym (*ℤ-zero (c *ℤ eval_m m))
-  mul_t-sound c m (term d n q) =
-      (λ i. (c *ℤ d) *ℤ mul_m-sound m n i +ℤ mul_t-sound c m q i)
+  mul-t-sound : (c : ℤ) (m : List ℕ) (q : Poly) → eval_p (mul_t c m q) ≡ (c *ℤ eval_m m) *ℤ eval_p q
+  mul-t-sound c m nil = sym (*ℤ-zero (c *ℤ eval_m m))
+  mul-t-sound c m (term d n q) =
+      (λ i. (c *ℤ d) *ℤ mul-m-sound m n i +ℤ mul-t-sound c m q i)
       ∙ ap (λ x. x +ℤ (c *ℤ eval_m m) *ℤ eval_p q) (*-swap-mid c d (eval_m m) (eval_m n))
       ∙ sym (*-distl (c *ℤ eval_m m) (d *ℤ eval_m n) (eval_p q))
 
   mul-sound : (p q : Poly) → eval_p (mul p q) ≡ eval_p p *ℤ eval_p q
   mul-sound nil q = sym (zero-*ℤ (eval_p q))
   mul-sound (term c m p) q =
-      add-sound (mul_t c m q) (mul p q) ∙ (λ i. mul_t-sound c m q i +ℤ mul-sound p q i) ∙ sym (*-distr (c *ℤ eval_m m) (eval_p p) (eval_p q))
+      add-sound (mul_t c m q) (mul p q) ∙ (λ i. mul-t-sound c m q i +ℤ mul-sound p q i) ∙ sym (*-distr (c *ℤ eval_m m) (eval_p p) (eval_p q))
 
-  neg_p-sound : (p : Poly) → eval_p (neg_p p) ≡ neg_ℤ (eval_p p)
-  neg_p-sound nil = refl
-  neg_p-sound (term c m p) = (λ i. neg-* c (eval_m m) i +ℤ neg_p-sound p i) ∙ sym (neg_ℤ-+ℤ (c *ℤ eval_m m) (eval_p p))
+  neg-p-sound : (p : Poly) → eval_p (neg_p p) ≡ neg_ℤ (eval_p p)
+  neg-p-sound nil = refl
+  neg-p-sound (term c m p) = (λ i. neg-* c (eval_m m) i +ℤ neg-p-sound p i) ∙ sym (neg_ℤ-+ℤ (c *ℤ eval_m m) (eval_p p))
 
   norm-sound : (e : Exp) → eval_p (norm e) ≡ eval ρ e
   norm-sound (var i) = +ℤ_idr (pos 1 *ℤ (at ρ i *ℤ pos 1)) ∙ one-* (at ρ i *ℤ pos 1) ∙ *ℤ_comm (at ρ i) (pos 1) ∙ one-* (at ρ i)
   norm-sound (con c) = front-sound c [] nil ∙ +ℤ_idr (c *ℤ pos 1) ∙ *ℤ_comm c (pos 1) ∙ one-* c
   norm-sound (a ⊕ b) = add-sound (norm a) (norm b) ∙ (λ i. norm-sound a i +ℤ norm-sound b i)
   norm-sound (a ⊗ b) = mul-sound (norm a) (norm b) ∙ (λ i. norm-sound a i *ℤ norm-sound b i)
-  norm-sound (opp a) = neg_p-sound (norm a) ∙ ap neg_ℤ (norm-sound a)
+  norm-sound (opp a) = neg-p-sound (norm a) ∙ ap neg_ℤ (norm-sound a)
 
   nil-zero : (p : Poly) → T (is_nil p) → eval_p p ≡ pos 0
   nil-zero nil t = refl

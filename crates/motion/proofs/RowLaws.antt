@@ -5,8 +5,8 @@ use Rattle.motion.specs.declared.shapes.Shape.{Shape}
 use Rattle.motion.specs.Laws.{Lawful, half}
 use Rattle.motion.specs.Rows.{row}
 
-pub row_lawful : {f g : Shape → Bool} → Lawful f → Lawful g → Lawful (row f g)
-row_lawful {f} {g} p q =
+pub row-lawful : {f g : Shape → Bool} → Lawful f → Lawful g → Lawful (row f g)
+row-lawful {f} {g} p q =
     record {
       apart = λ t v h. ⊎_elim (p.apart t v) (q.apart t v) (or_cases (f t) (g t) h);
       halves = λ t v k h.

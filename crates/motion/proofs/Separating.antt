@@ -9,16 +9,16 @@ use Rattle.motion.specs.Features.{first, second}
 use Rattle.motion.specs.Laws.{Valid, Within, Far, Apart, Weights, weighted, total, difference}
 use Rattle.motion.proofs.Ring.{var, con, ◌⊕◌, ◌⊗◌, opp, ring}
 use Rattle.motion.proofs.Expressions.{◌+ᵉ◌, ◌-ᵉ◌, ◌·ᵉ◌, dotᵉ, vars, originᵉ, put}
-use Rattle.motion.proofs.Places.{place, at_place}
-use Rattle.motion.proofs.Sizes.{abs_neg, far-along}
-use Rattle.motion.proofs.Alls.{All}
+use Rattle.motion.proofs.Places.{place, at-place}
+use Rattle.motion.proofs.Gaps.{abs-neg, far-along}
+use Rattle.motion.proofs.Members.{Each}
 
 pub record Beyond (d : V3) (m n : Moving) : Type 0 where
   pub at-start : pos 0 <ℤ dot d (m.start -ᵛ n.start)
   pub at-end : pos 0 <ℤ dot d (m.end -ᵛ n.end)
 
 abbrev pub Beyonds : V3 → List Moving → List Moving → Type 0
-Beyonds d ms ns = All (λ m. All (λ n. Beyond d m n) ns) ms
+Beyonds d ms ns = Each (λ m. Each (λ n. Beyond d m n) ns) ms
 
 -- ---- products that are large enough
 mono : (g : ℤ) (q n : ℕ) → pos q ≤ℤ g → pos (q * n) ≤ℤ (g *ℤ pos n)
@@ -30,18 +30,18 @@ module _ (d : V3) (r p : ℕ) where
   here m = place (pos r) (pos p) m
 
   -- d: 0 to 2; the starts: 3 to 8; the ends: 9 to 14; r and p
-  pair_is : (m n : Moving) → dot d (here m -ᵛ here n) ≡ dot d (m.start -ᵛ n.start) *ℤ pos r +ℤ dot d (m.end -ᵛ n.end) *ℤ pos p
+  pair-is : (m n : Moving) → dot d (here m -ᵛ here n) ≡ dot d (m.start -ᵛ n.start) *ℤ pos r +ℤ dot d (m.end -ᵛ n.end) *ℤ pos p
   unfolding place dot ◌+ᵛ◌ ◌-ᵛ◌ ◌·ᵛ◌
-  pair_is m n =
+  pair-is m n =
       ring (put d (put m.start (put n.start (put m.end (put n.end (pos r ∷ pos p ∷ []))))))
       (dotᵉ (vars 0) ((var 15 ·ᵉ vars 3 +ᵉ var 16 ·ᵉ vars 9) -ᵉ (var 15 ·ᵉ vars 6 +ᵉ var 16 ·ᵉ vars 12)))
       (dotᵉ (vars 0) (vars 3 -ᵉ vars 6) ⊗ var 15 ⊕ dotᵉ (vars 0) (vars 9 -ᵉ vars 12) ⊗ var 16) tt
 
-  pair_far : (m n : Moving) → Beyond d m n → pos (r + p) ≤ℤ dot d (here m -ᵛ here n)
-  pair_far m n h = sum_of (dot d (m.start -ᵛ n.start)) (dot d (m.end -ᵛ n.end)) (dot d (here m -ᵛ here n)) h.at-start h.at-end (pair_is m n)
+  pair-far : (m n : Moving) → Beyond d m n → pos (r + p) ≤ℤ dot d (here m -ᵛ here n)
+  pair-far m n h = sum-of (dot d (m.start -ᵛ n.start)) (dot d (m.end -ᵛ n.end)) (dot d (here m -ᵛ here n)) h.at-start h.at-end (pair-is m n)
     where
-      sum_of : (s e z : ℤ) → pos 0 <ℤ s → pos 0 <ℤ e → z ≡ s *ℤ pos r +ℤ e *ℤ pos p → pos (r + p) ≤ℤ z
-      sum_of s e z hs he eq = omega (arith, ints, mono s 1 r (omega (arith, ints)), mono e 1 p (omega (arith, ints)))
+      sum-of : (s e z : ℤ) → pos 0 <ℤ s → pos 0 <ℤ e → z ≡ s *ℤ pos r +ℤ e *ℤ pos p → pos (r + p) ≤ℤ z
+      sum-of s e z hs he eq = omega (arith, ints, mono s 1 r (omega (arith, ints)), mono e 1 p (omega (arith, ints)))
 
   -- d: 0 to 2; x: 3 to 5; y: 6 to 8; the rest: 9 to 11; the weights
   inner-is : (x y rest : V3) (u v : ℕ) → dot d (pos (u + v) ·ᵛ x -ᵛ (pos u ·ᵛ y +ᵛ rest)) ≡ dot d (x -ᵛ y) *ℤ pos u +ℤ dot d (pos v ·ᵛ x -ᵛ rest)
@@ -71,14 +71,14 @@ module _ (d : V3) (r p : ℕ) where
   add-up g rest z q u v e hg hr = omega (arith, ints, mono g q u hg)
 
   -- one point against a weighted mean of ns
-  one-far : (m : Moving) (us : List ℕ) (ns : List Moving) → length us ≡ length ns → All (λ n. Beyond d m n) ns
+  one-far : (m : Moving) (us : List ℕ) (ns : List Moving) → length us ≡ length ns → Each (λ n. Beyond d m n) ns
       → pos (total us * (r + p)) ≤ℤ dot d (pos (total us) ·ᵛ here m -ᵛ weighted us (map here ns))
   one-far m [] [] e h = omega (arith, ints, no-weights (here m))
   one-far m [] (n ∷ ns) e h = absurd (omega arith)
   one-far m (u ∷ us) [] e h = absurd (omega arith)
   one-far m (u ∷ us) (n ∷ ns) e (b, h) =
       add-up (dot d (here m -ᵛ here n)) (dot d (pos (total us) ·ᵛ here m -ᵛ weighted us (map here ns))) _ (r + p) u (total us)
-      (inner-is (here m) (here n) (weighted us (map here ns)) u (total us)) (pair_far m n b) (one-far m us ns (omega arith) h)
+      (inner-is (here m) (here n) (weighted us (map here ns)) u (total us)) (pair-far m n b) (one-far m us ns (omega arith) h)
 
   all-far : (ws us : List ℕ) (ms ns : List Moving) → length ws ≡ length ms → length us ≡ length ns → Beyonds d ms ns
       → pos (total ws * (total us * (r + p))) ≤ℤ dot d (pos (total us) ·ᵛ weighted ws (map here ms) -ᵛ pos (total ws) ·ᵛ weighted us (map here ns))
@@ -100,7 +100,7 @@ module _ (t : Shape) (v : Valid t) (d : V3) (w : Within 1 d) (b : Beyonds d (fir
       → Far t.scale (total ws * total us * (r + p)) (difference p (r + p) ws (first t) us (second t))
   apart-at r p hq ws us hw hu =
       subst (λ (f : Moving → V3). Far t.scale (total ws * total us * (r + p)) (pos (total us) ·ᵛ weighted ws (map f (first t)) -ᵛ pos (total ws) ·ᵛ weighted us (map f (second t))))
-      (λ i m. sym (at_place r p m) i)
+      (λ i m. sym (at-place r p m) i)
       (far-along t.scale (total ws * total us * (r + p)) d _ v.0 (mul-pos (mul-pos hw.1 hu.1) hq) w
       (regroup (total ws) (total us) (r + p) _ (size _ _ (all-far d r p ws us (first t) (second t) hw.0 hu.0 b))))
     where
@@ -121,4 +121,4 @@ unfolding dot
 opposite-dot d v = ring (put d (put v [])) (dotᵉ (record { x = opp (var 0); y = opp (var 1); z = opp (var 2) }) (vars 3)) (opp (dotᵉ (vars 0) (vars 3))) tt
 
 pub opposite-within : (d : V3) → Within 1 d → Within 1 (opposite d)
-opposite-within d (i, j, k) = (rw (abs_neg d.x) i, rw (abs_neg d.y) j, rw (abs_neg d.z) k)
+opposite-within d (i, j, k) = (rw (abs-neg d.x) i, rw (abs-neg d.y) j, rw (abs-neg d.z) k)

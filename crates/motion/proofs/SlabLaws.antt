@@ -14,41 +14,41 @@ use Rattle.std.specs.List.{list_all}
 use Rattle.motion.specs.Slab.{pairs, above, below, parted_along, directions, slab_set}
 use Rattle.motion.proofs.Ring.{◌⊕◌, ring}
 use Rattle.motion.proofs.Expressions.{◌+ᵉ◌, dotᵉ, vars, put}
-use Rattle.motion.proofs.RowLaws.{row_lawful}
+use Rattle.motion.proofs.RowLaws.{row-lawful}
 use Rattle.motion.proofs.ByKind.{firsts-map, seconds-map}
 use Rattle.motion.proofs.Halves.{minus-start, minus-middle, minus-end}
-use Rattle.motion.proofs.Alls.{All, all_map, each_all, all-each, all_under, some_one, some-map}
+use Rattle.motion.proofs.Members.{Each, each-map, all-to-each, each-to-all, each-under, some-one, some-map}
 use Rattle.motion.proofs.Separating.{Beyonds, beyonds-apart, opposite, opposite-dot, opposite-within}
 
 -- ---- pairs as a test and as a fact
 abbrev pub Pairs : (V3 → Bool) → List Moving → List Moving → Type 0
-Pairs f ms ns = All (λ m. All (λ n. (f (m.start -ᵛ n.start) ≡ true) × (f (m.end -ᵛ n.end) ≡ true)) ns) ms
+Pairs f ms ns = Each (λ m. Each (λ n. (f (m.start -ᵛ n.start) ≡ true) × (f (m.end -ᵛ n.end) ≡ true)) ns) ms
 
 module _ (f : V3 → Bool) where
   abbrev both : Moving → Moving → Bool
   both m n = f (m.start -ᵛ n.start) && f (m.end -ᵛ n.end)
 
   to-pairs : (ms ns : List Moving) → list_all (λ m. list_all (both m) ns) ms ≡ true → Pairs f ms ns
-  to-pairs ms ns h = all_map (λ m q. all_map (λ n s. and_parts _ _ s) ns (each_all (both m) ns q)) ms (each_all (λ m. list_all (both m) ns) ms h)
+  to-pairs ms ns h = each-map (λ m q. each-map (λ n s. and_parts _ _ s) ns (all-to-each (both m) ns q)) ms (all-to-each (λ m. list_all (both m) ns) ms h)
 
   from-pairs : (ms ns : List Moving) → Pairs f ms ns → list_all (λ m. list_all (both m) ns) ms ≡ true
-  from-pairs ms ns h = all-each (λ m. list_all (both m) ns) ms (all_map (λ m q. all-each (both m) ns (all_map (λ n s. and_from _ _ s.0 s.1) ns q)) ms h)
+  from-pairs ms ns h = each-to-all (λ m. list_all (both m) ns) ms (each-map (λ m q. each-to-all (both m) ns (each-map (λ n s. and_from _ _ s.0 s.1) ns q)) ms h)
 
 -- ---- the gap
 beyond-above : (d : V3) (ms ns : List Moving) → Pairs (above d) ms ns → Beyonds d ms ns
-beyond-above d ms ns h = all_map (λ m q. all_map (λ n s. record { at-start = is-above _ s.0; at-end = is-above _ s.1 }) ns q) ms h
+beyond-above d ms ns h = each-map (λ m q. each-map (λ n s. record { at-start = is-above _ s.0; at-end = is-above _ s.1 }) ns q) ms h
   where
     is-above : (z : ℤ) → lt_z (pos 0) z ≡ true → pos 0 <ℤ z
     is-above z e = omega (arith, ints)
 
 beyond-below : (d : V3) (ms ns : List Moving) → Pairs (below d) ms ns → Beyonds (opposite d) ms ns
-beyond-below d ms ns h = all_map (λ m q. all_map (λ n s. record { at-start = turned (m.start -ᵛ n.start) s.0; at-end = turned (m.end -ᵛ n.end) s.1 }) ns q) ms h
+beyond-below d ms ns h = each-map (λ m q. each-map (λ n s. record { at-start = beyond (m.start -ᵛ n.start) s.0; at-end = beyond (m.end -ᵛ n.end) s.1 }) ns q) ms h
   where
     is-above : (x z : ℤ) → x ≡ neg_ℤ z → lt_z z (pos 0) ≡ true → pos 0 <ℤ x
     is-above x z e h = omega (arith, ints)
 
-    turned : (v : V3) → below d v ≡ true → pos 0 <ℤ dot (opposite d) v
-    turned v h = is-above _ (dot d v) (opposite-dot d v) h
+    beyond : (v : V3) → below d v ≡ true → pos 0 <ℤ dot (opposite d) v
+    beyond v h = is-above _ (dot d v) (opposite-dot d v) h
 
 -- ---- the halves
 -- what is one-signed at two vectors is so at their sum
@@ -82,11 +82,11 @@ module _ (f : V3 → Bool) (adds : Adds f) where
   pair-last m n (s, e) =
       (ap f (sym (minus-middle m n)) ∙ adds (m.start -ᵛ n.start) (m.end -ᵛ n.end) s e, ap f (sym (minus-end m n)) ∙ adds (m.end -ᵛ n.end) (m.end -ᵛ n.end) e e)
 
-  pairs_first : (ms ns : List Moving) → Pairs f ms ns → Pairs f (map (portion 1 0) ms) (map (portion 1 0) ns)
-  pairs_first ms ns h = all_under _ (portion 1 0) ms (all_map (λ m q. all_under _ (portion 1 0) ns (all_map (λ n s. pair-first m n s) ns q)) ms h)
+  pairs-first : (ms ns : List Moving) → Pairs f ms ns → Pairs f (map (portion 1 0) ms) (map (portion 1 0) ns)
+  pairs-first ms ns h = each-under _ (portion 1 0) ms (each-map (λ m q. each-under _ (portion 1 0) ns (each-map (λ n s. pair-first m n s) ns q)) ms h)
 
   pairs-last : (ms ns : List Moving) → Pairs f ms ns → Pairs f (map (portion 1 1) ms) (map (portion 1 1) ns)
-  pairs-last ms ns h = all_under _ (portion 1 1) ms (all_map (λ m q. all_under _ (portion 1 1) ns (all_map (λ n s. pair-last m n s) ns q)) ms h)
+  pairs-last ms ns h = each-under _ (portion 1 1) ms (each-map (λ m q. each-under _ (portion 1 1) ns (each-map (λ n s. pair-last m n s) ns q)) ms h)
 
 module _ (t : Shape) where
   pub ones-of : (j : ℕ) → map (portion 1 j) (first t) ≡ first (half j t)
@@ -98,7 +98,7 @@ module _ (t : Shape) where
   pairs-halves : (f : V3 → Bool) → Adds f → pairs f t ≡ true → (pairs f (half 0 t) ≡ true) × (pairs f (half 1 t) ≡ true)
   pairs-halves f adds h =
       let q = to-pairs f (first t) (second t) h in (
-        from-pairs f (first (half 0 t)) (second (half 0 t)) (transport (λ i. Pairs f (ones-of 0 i) (others-of 0 i)) (pairs_first f adds (first t) (second t) q)),
+        from-pairs f (first (half 0 t)) (second (half 0 t)) (transport (λ i. Pairs f (ones-of 0 i) (others-of 0 i)) (pairs-first f adds (first t) (second t) q)),
         from-pairs f (first (half 1 t)) (second (half 1 t)) (transport (λ i. Pairs f (ones-of 1 i) (others-of 1 i)) (pairs-last f adds (first t) (second t) q)),
       )
 
@@ -119,18 +119,18 @@ module _ (d : V3) (w : Within 1 d) where
       }
 
   along-lawful : Lawful (λ t. parted_along t d)
-  along-lawful = row_lawful above-lawful below-lawful
+  along-lawful = row-lawful above-lawful below-lawful
 
 -- ---- the directions
-all_short : All (Within 1) directions
-all_short = search arith
+all-short : Each (Within 1) directions
+all-short = search arith
 
 pub slab-lawful : Lawful slab_set
 slab-lawful =
     record {
-      apart = λ t v h. some_one (Within 1) (parted_along t) (Apart t) (λ d w e. (along-lawful d w).apart t v e) directions all_short h;
+      apart = λ t v h. some-one (Within 1) (parted_along t) (Apart t) (λ d w e. (along-lawful d w).apart t v e) directions all-short h;
       halves = λ t v k h. (
-        some-map (Within 1) (parted_along t) (parted_along (half 0 t)) (λ d w e. ((along-lawful d w).halves t v k e).0) directions all_short h,
-        some-map (Within 1) (parted_along t) (parted_along (half 1 t)) (λ d w e. ((along-lawful d w).halves t v k e).1) directions all_short h,
+        some-map (Within 1) (parted_along t) (parted_along (half 0 t)) (λ d w e. ((along-lawful d w).halves t v k e).0) directions all-short h,
+        some-map (Within 1) (parted_along t) (parted_along (half 1 t)) (λ d w e. ((along-lawful d w).halves t v k e).1) directions all-short h,
       );
     }

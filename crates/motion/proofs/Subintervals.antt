@@ -68,14 +68,14 @@ pub twice : (d : ℕ) → 2 ^ suc d ≡ 2 ^ d + 2 ^ d
 twice d = omega (arith, pow-suc 2 d)
 
 -- the first 2^d subintervals are those of the first half, the others those of the last
-pub in_first : (t : Shape) (d j : ℕ) → subinterval (suc d) j t ≡ subinterval d j (half 0 t)
-in_first t d j = ap (λ k. subinterval (suc d) k t) same ∙ nested-subinterval t d 0 j
+pub in-first : (t : Shape) (d j : ℕ) → subinterval (suc d) j t ≡ subinterval d j (half 0 t)
+in-first t d j = ap (λ k. subinterval (suc d) k t) same ∙ nested-subinterval t d 0 j
   where
     same : j ≡ 0 * 2 ^ d + j
     same = omega arith
 
-pub in_last : (t : Shape) (d j : ℕ) → subinterval (suc d) (2 ^ d + j) t ≡ subinterval d j (half 1 t)
-in_last t d j = ap (λ k. subinterval (suc d) k t) same ∙ nested-subinterval t d 1 j
+pub in-last : (t : Shape) (d j : ℕ) → subinterval (suc d) (2 ^ d + j) t ≡ subinterval d j (half 1 t)
+in-last t d j = ap (λ k. subinterval (suc d) k t) same ∙ nested-subinterval t d 1 j
   where
     same : 2 ^ d + j ≡ 1 * 2 ^ d + j
     same = omega arith

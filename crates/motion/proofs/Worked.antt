@@ -21,30 +21,30 @@ pub cases : Cases
 unfolding ◌+ᵛ◌ ◌-ᵛ◌ ◌·ᵛ◌ dot cross at after controls struck_at first_passed last_passed window_at
 cases =
     record {
-      values-1 = refl;
-      answers-1 = (refl, refl, refl);
-      values-2 = refl;
-      answers-2 = (refl, refl, refl);
-      window-0 = record { within = omega arith; first = refl; before = refl; last = refl; beyond = refl };
-      window-1 = record { within = omega arith; first = refl; before = refl; last = refl; beyond = refl };
-      window-2 = record { within = omega arith; first = refl; before = refl; last = refl; beyond = refl };
-      window-6 = record { within = omega arith; first = refl; before = refl; last = refl; beyond = refl };
-      found-0 = refl;
-      found-1 = refl;
-      found-2 = refl;
-      found-6 = refl;
-      touches = never-apart;
-      values-3 = refl;
-      answers-3 = (refl, refl, refl);
-      values-4 = refl;
-      answers-4 = (refl, refl, refl);
-      values-5 = refl;
-      answers-5 = (refl, refl, refl);
-      values-6 = refl;
-      answers-6 = (refl, refl, refl);
-      first-half = refl;
-      last-half = refl;
-      deeper = refl;
-      values-7 = refl;
-      answers-7 = (refl, refl, refl);
+      leaving_values = refl;
+      leaving_answers = (refl, refl, refl);
+      crossing_values = refl;
+      crossing_answers = (refl, refl, refl);
+      crossing_window_0 = record { within = omega arith; first = refl; before = refl; last = refl; beyond = refl };
+      crossing_window_1 = record { within = omega arith; first = refl; before = refl; last = refl; beyond = refl };
+      crossing_window_2 = record { within = omega arith; first = refl; before = refl; last = refl; beyond = refl };
+      crossing_window_6 = record { within = omega arith; first = refl; before = refl; last = refl; beyond = refl };
+      crossing_found_0 = refl;
+      crossing_found_1 = refl;
+      crossing_found_2 = refl;
+      crossing_found_6 = refl;
+      crossing_touches = never-apart;
+      landing_values = refl;
+      landing_answers = (refl, refl, refl);
+      beside_values = refl;
+      beside_answers = (refl, refl, refl);
+      rising_values = refl;
+      rising_answers = (refl, refl, refl);
+      turning_values = refl;
+      turning_answers = (refl, refl, refl);
+      turning_first_half = refl;
+      turning_last_half = refl;
+      turning_deeper = refl;
+      sinking_values = refl;
+      sinking_answers = (refl, refl, refl);
     }

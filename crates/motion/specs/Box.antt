@@ -1,4 +1,5 @@
--- Box: on some axis the greatest coordinate of one feature, over start and end, is less than the least of the other.
+-- Box: on some axis the greatest coordinate of one feature, over start and end,
+-- is less than the least of the other.
 use Rattle.std.specs.Prelude.{Bool, ◌||◌, List, [], ◌∷◌, ℤ, pos, int_lt}
 use Rattle.std.specs.Int.{int_min, int_max}
 use Rattle.motion.specs.declared.shapes.V3.{V3}

@@ -1,5 +1,6 @@
 -- Struck at a depth, and the window.
-use Rattle.std.specs.Prelude.{◌≡◌, ◌↔◌, ℕ, zero, suc, ◌+◌, ◌-◌, ◌^◌, ◌<◌, ◌≤◌, Bool, true, false, ◌&&◌, if◌then◌else◌, Option, Some, None}
+use Rattle.std.specs.Prelude.{◌≡◌, ◌↔◌, ℕ, zero, suc, ◌+◌, ◌-◌, ◌^◌, ◌<◌, ◌≤◌, Bool, true, ◌&&◌, if◌then◌else◌, Option, Some, None, IsTrue}
+use Rattle.std.specs.Bool.{IsFalse}
 use Rattle.std.specs.Option.{option_or, option_zip}
 use Rattle.motion.specs.declared.shapes.Shape.{Shape}
 use Rattle.motion.specs.Laws.{subinterval, Apart}
@@ -13,18 +14,19 @@ every f (suc n) = every f n && f n
 unfoldable pub struck_at : (Shape → Bool) → ℕ → Shape → Bool
 struck_at set d t = every (λ j. set (subinterval d j t)) (2 ^ d)
 
--- what a test that is struck at depth d owes to the laws: it stays apart for the whole step, and is struck at every greater depth
+-- what a test that is struck at depth d owes to the laws:
+-- it stays apart for the whole step, and is struck at every greater depth
 pub record Struck (set : Shape → Bool) (d : ℕ) (t : Shape) : Type 0 where
   pub apart : Apart t
-  pub deeper : (e : ℕ) → d ≤ e → t.scale + e ≤ 6 → struck_at set e t ≡ true
+  pub deeper : (e : ℕ) → d ≤ e → t.scale + e ≤ 6 → IsTrue (struck_at set e t)
 
 -- i is the first and j the last subinterval of depth d that the set lacks
-pub record Window (set : Shape → Bool) (d : ℕ) (t : Shape) (i j : ℕ) : Type 0 where
+pub record IsWindow (set : Shape → Bool) (d : ℕ) (t : Shape) (i j : ℕ) : Type 0 where
   pub within : j < 2 ^ d
-  pub first : set (subinterval d i t) ≡ false
-  pub before : every (λ n. set (subinterval d n t)) i ≡ true
-  pub last : set (subinterval d j t) ≡ false
-  pub beyond : every (λ n. set (subinterval d (suc j + n) t)) (2 ^ d - suc j) ≡ true
+  pub first : IsFalse (set (subinterval d i t))
+  pub before : IsTrue (every (λ n. set (subinterval d n t)) i)
+  pub last : IsFalse (set (subinterval d j t))
+  pub beyond : IsTrue (every (λ n. set (subinterval d (suc j + n) t)) (2 ^ d - suc j))
 
 -- the least number below n at which f does not hold
 abbrev pub first_lacking : (ℕ → Bool) → ℕ → Option ℕ
@@ -47,7 +49,8 @@ last_passed set d t = last_lacking (λ j. set (subinterval d j t)) (2 ^ d)
 unfoldable pub window_at : (Shape → Bool) → ℕ → Shape → Option (ℕ × ℕ)
 window_at set d t = option_zip (first_passed set d t) (last_passed set d t)
 
--- whatever the set: the window is what the record above says, and there is none exactly where the test is struck
-pub record Windowed (set : Shape → Bool) (d : ℕ) (t : Shape) : Type 0 where
-  pub some : (i j : ℕ) → window_at set d t ≡ Some (i, j) → Window set d t i j
-  pub none : (window_at set d t ≡ None) ↔ (struck_at set d t ≡ true)
+-- whatever the set: what `window_at` finds is a window,
+-- and it finds none exactly where the test is struck
+pub record FindsWindow (set : Shape → Bool) (d : ℕ) (t : Shape) : Type 0 where
+  pub some : (i j : ℕ) → window_at set d t ≡ Some (i, j) → IsWindow set d t i j
+  pub none : (window_at set d t ≡ None) ↔ IsTrue (struck_at set d t)

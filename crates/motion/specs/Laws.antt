@@ -1,12 +1,13 @@
 -- What a filter owes: the tests of its set stay apart, and so it has the halves of each.
-use Rattle.std.specs.Prelude.{◌≡◌, ℕ, ◌+◌, ◌*◌, ◌^◌, ◌≤◌, Bool, true, List, [], ◌∷◌, map, length, pos, ◌-ℤ◌, unsigned_abs}
+use Rattle.std.specs.Prelude.{◌≡◌, ℕ, ◌+◌, ◌*◌, ◌^◌, ◌≤◌, Bool, IsTrue, List, [], ◌∷◌, map, length, pos, ◌-ℤ◌, unsigned_abs}
 use Rattle.motion.specs.declared.shapes.V3.{V3}
 use Rattle.motion.specs.declared.shapes.Moving.{Moving}
 use Rattle.motion.specs.declared.shapes.Shape.{Shape}
 use Rattle.motion.specs.Vectors.{◌+ᵛ◌, ◌-ᵛ◌, ◌·ᵛ◌, origin}
 use Rattle.motion.specs.Features.{first, second}
 
--- ---- tests within their bounds: a scale of at most 6, and no coordinate further from zero than 4,096·2^scale
+-- ---- tests within their bounds: a scale of at most 6,
+-- and no coordinate further from zero than 4,096·2^scale
 abbrev pub Within : ℕ → V3 → Type 0
 Within B v = (unsigned_abs v.x ≤ B) × (unsigned_abs v.y ≤ B) × (unsigned_abs v.z ≤ B)
 
@@ -14,7 +15,9 @@ abbrev pub InReach : ℕ → Moving → Type 0
 InReach k m = Within (4096 * 2 ^ k) m.start × Within (4096 * 2 ^ k) m.end
 
 abbrev pub Valid : Shape → Type 0
-Valid t = (t.scale ≤ 6) × InReach t.scale t.p × InReach t.scale t.a × InReach t.scale t.b × InReach t.scale t.c
+Valid t =
+    (t.scale ≤ 6)
+    × InReach t.scale t.p × InReach t.scale t.a × InReach t.scale t.b × InReach t.scale t.c
 
 -- ---- apart
 -- where a moving point is at the fraction p/q of the step, times q
@@ -35,19 +38,25 @@ total (w ∷ ws) = w + total ws
 abbrev pub Weights : List ℕ → List Moving → Type 0
 Weights ws ms = (length ws ≡ length ms) × (1 ≤ total ws)
 
--- v is n times a difference of two points, on a grid 2^k times as fine: it is at least 2^k/2^49 on some axis
+-- v is n times a difference of two points, on a grid 2^k times as fine:
+-- it is at least 2^k/2^49 on some axis
 pub data Far (k n : ℕ) (v : V3) : Type 0 where
   on-x : 2 ^ k * n ≤ unsigned_abs v.x * 2 ^ 49 → Far k n v
   on-y : 2 ^ k * n ≤ unsigned_abs v.y * 2 ^ 49 → Far k n v
   on-z : 2 ^ k * n ≤ unsigned_abs v.z * 2 ^ 49 → Far k n v
 
--- at the fraction p/q, the point of ms with the weights ws less the one of ns with the weights us, times q and both sums
+-- at the fraction p/q, the point of ms with the weights ws less the one of ns with the weights us,
+-- times q and both sums
 abbrev pub difference : ℕ → ℕ → List ℕ → List Moving → List ℕ → List Moving → V3
-difference p q ws ms us ns = pos (total us) ·ᵛ weighted ws (map (at p q) ms) -ᵛ pos (total ws) ·ᵛ weighted us (map (at p q) ns)
+difference p q ws ms us ns =
+    pos (total us) ·ᵛ weighted ws (map (at p q) ms)
+    -ᵛ pos (total ws) ·ᵛ weighted us (map (at p q) ns)
 
 -- at every fraction of the step any point of the one feature is far from any of the other
 abbrev pub Apart : Shape → Type 0
-Apart t = (p q : ℕ) → 1 ≤ q → p ≤ q → (ws us : List ℕ) → Weights ws (first t) → Weights us (second t)
+Apart t =
+    (p q : ℕ) → 1 ≤ q → p ≤ q
+    → (ws us : List ℕ) → Weights ws (first t) → Weights us (second t)
     → Far t.scale (total ws * total us * q) (difference p q ws (first t) us (second t))
 
 -- ---- subintervals: part j of the 2^h equal ones of the step, on a grid 2^h times as fine
@@ -74,5 +83,7 @@ half j t = subinterval 1 j t
 
 -- ---- the two laws of a filter's set
 pub record Lawful (set : Shape → Bool) : Type 0 where
-  pub apart : (t : Shape) → Valid t → set t ≡ true → Apart t
-  pub halves : (t : Shape) → Valid t → t.scale ≤ 5 → set t ≡ true → (set (half 0 t) ≡ true) × (set (half 1 t) ≡ true)
+  pub apart : (t : Shape) → Valid t → IsTrue (set t) → Apart t
+  pub halves :
+      (t : Shape) → Valid t → t.scale ≤ 5 → IsTrue (set t)
+      → IsTrue (set (half 0 t)) × IsTrue (set (half 1 t))

@@ -1,6 +1,5 @@
 pub mod Vectors
 pub mod Features
-pub mod Lists
 pub mod Laws
 pub mod Box
 pub mod Slab

@@ -1,15 +1,19 @@
--- Slab: along one of thirteen directions each point of one feature stays beyond each of the other, at start and at end.
-use Rattle.std.specs.Prelude.{◌≡◌, Bool, ◌&&◌, ◌||◌, ◌⊎◌, List, [], ◌∷◌, ℤ, pos, negsuc, int_lt}
+-- Slab: along one of thirteen directions each point of one feature stays beyond each of the other,
+-- at start and at end.
+use Rattle.std.specs.Prelude.{◌≡◌, ◌↔◌, Bool, ◌&&◌, ◌||◌, ◌⊎◌, List, [], ◌∷◌, Contains, ℤ, pos, negsuc, int_lt}
 use Rattle.std.specs.List.{list_all, list_any}
 use Rattle.motion.specs.declared.shapes.V3.{V3}
 use Rattle.motion.specs.declared.shapes.Shape.{Shape}
 use Rattle.motion.specs.Vectors.{◌-ᵛ◌, dot, vector}
 use Rattle.motion.specs.Features.{first, second}
-use Rattle.motion.specs.Lists.{In}
 
--- what holds of each pair of a point of the first and one of the second feature, at start and at end
+-- what holds of each pair of a point of the first feature and one of the second,
+-- at start and at end
 abbrev pub pairs : (V3 → Bool) → Shape → Bool
-pairs f t = list_all (λ m. list_all (λ n. f (m.start -ᵛ n.start) && f (m.end -ᵛ n.end)) (second t)) (first t)
+pairs f t =
+    list_all
+    (λ m. list_all (λ n. f (m.start -ᵛ n.start) && f (m.end -ᵛ n.end)) (second t))
+    (first t)
 
 abbrev pub above : V3 → V3 → Bool
 above d v = int_lt (pos 0) (dot d v)
@@ -33,7 +37,8 @@ back = negsuc 0
 abbrev pub directions : List V3
 directions =
     vector one none none ∷ vector none one none ∷ vector none none one
-    ∷ vector one one none ∷ vector one back none ∷ vector one none one ∷ vector one none back ∷ vector none one one ∷ vector none one back
+    ∷ vector one one none ∷ vector one back none ∷ vector one none one ∷ vector one none back
+    ∷ vector none one one ∷ vector none one back
     ∷ vector one one one ∷ vector one one back ∷ vector one back one ∷ vector one back back ∷ []
 
 abbrev pub slab_set : Shape → Bool
@@ -41,15 +46,17 @@ slab_set t = list_any (parted_along t) directions
 
 -- ---- which directions these are
 -- −1, 0 or 1
-abbrev pub Entry : ℤ → Type 0
-Entry z = (z ≡ back) ⊎ ((z ≡ none) ⊎ (z ≡ one))
+abbrev pub IsEntry : ℤ → Type 0
+IsEntry z = (z ≡ back) ⊎ ((z ≡ none) ⊎ (z ≡ one))
 
 -- the first entry that is not 0 is 1
-abbrev pub Leads : V3 → Type 0
-Leads d = (d.x ≡ one) ⊎ ((d.x ≡ none) × ((d.y ≡ one) ⊎ ((d.y ≡ none) × (d.z ≡ one))))
+abbrev pub LeadsByOne : V3 → Type 0
+LeadsByOne d =
+    (d.x ≡ one) ⊎ ((d.x ≡ none) × ((d.y ≡ one) ⊎ ((d.y ≡ none) × (d.z ≡ one))))
 
-abbrev pub Direction : V3 → Type 0
-Direction d = Entry d.x × Entry d.y × Entry d.z × Leads d
+abbrev pub IsDirection : V3 → Type 0
+IsDirection d = IsEntry d.x × IsEntry d.y × IsEntry d.z × LeadsByOne d
 
-abbrev pub Exactly : Type 0
-Exactly = (d : V3) → (In d directions → Direction d) × (Direction d → In d directions)
+-- the table has each direction, and nothing else
+abbrev pub ListsAllDirections : Type 0
+ListsAllDirections = (d : V3) → Contains directions d ↔ IsDirection d

@@ -23,4 +23,9 @@ unfoldable pub dot : V3 → V3 → ℤ
 dot a b = a.x *ℤ b.x +ℤ a.y *ℤ b.y +ℤ a.z *ℤ b.z
 
 unfoldable pub cross : V3 → V3 → V3
-cross a b = record { x = a.y *ℤ b.z -ℤ a.z *ℤ b.y; y = a.z *ℤ b.x -ℤ a.x *ℤ b.z; z = a.x *ℤ b.y -ℤ a.y *ℤ b.x }
+cross a b =
+    record {
+      x = a.y *ℤ b.z -ℤ a.z *ℤ b.y;
+      y = a.z *ℤ b.x -ℤ a.x *ℤ b.z;
+      z = a.x *ℤ b.y -ℤ a.y *ℤ b.x;
+    }

@@ -3,12 +3,13 @@ ghost use Rattle.std.specs.Prelude.{◌≡◌, ℕ, Bool};
 ghost use Rattle.motion.specs.declared.shapes.Shape.{Shape};
 ghost use Rattle.motion.specs.Laws.{Lawful};
 ghost use Rattle.motion.specs.Box.{box_set};
-ghost use Rattle.motion.specs.Slab.{slab_set, Exactly};
+ghost use Rattle.motion.specs.Slab.{slab_set, ListsAllDirections};
 ghost use Rattle.motion.specs.Plane.{plane_set, NeverCoplanar};
-ghost use Rattle.motion.specs.Depths.{Windowed};
+ghost use Rattle.motion.specs.Depths.{FindsWindow};
 ghost use Rattle.motion.specs.Cases.{Cases};
 
-/// How many filters are delivered: the sets of the three keep both laws, and Slab's directions are the ones that its rule describes.
+/// How many filters are delivered: the sets of the three keep both laws, what Plane strikes is never in one plane, and Slab's directions
+/// are the ones that its rule describes.
 ///
 /// For any set, the window is the first and the last subinterval that it lacks, and there is none exactly where it has them all (`windows`).
 pub fn laws_hold() -> u8
@@ -17,8 +18,8 @@ pub fn laws_hold() -> u8
     ensures slabs { Lawful slab_set }
     ensures planes { Lawful plane_set }
     ensures never_coplanar { NeverCoplanar }
-    ensures directions { Exactly }
-    ensures windows { (set : Shape → Bool) → (d : ℕ) → (t : Shape) → Windowed set d t }
+    ensures directions { ListsAllDirections }
+    ensures windows { (set : Shape → Bool) → (d : ℕ) → (t : Shape) → FindsWindow set d t }
 {
     3
 }

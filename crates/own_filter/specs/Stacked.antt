@@ -1,4 +1,5 @@
--- The rule of the example's filter: each point of the first feature is lower than each of the second, at start and at end.
+-- The rule of the example's filter:
+-- each point of the first feature is lower than each of the second, at start and at end.
 use Rattle.std.specs.Prelude.{Bool, ◌&&◌, pos, int_lt}
 use Rattle.motion.specs.declared.shapes.V3.{V3}
 use Rattle.motion.specs.declared.shapes.Moving.{Moving}

@@ -8,4 +8,7 @@ use Rattle.motion.proofs.SlabLaws.{below-lawful}
 use Rattle.own_filter.specs.Stacked.{stacked_set}
 
 pub stacked-lawful : Lawful stacked_set
-stacked-lawful = subst Lawful (λ i t. pairs (λ v. int_lt (on-z.product v i) (pos 0)) t) (below-lawful on-z.way on-z.within)
+stacked-lawful =
+    subst Lawful
+    (λ i t. pairs (λ v. int_lt (on-z.product v i) (pos 0)) t)
+    (below-lawful on-z.way on-z.within)

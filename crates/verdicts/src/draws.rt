@@ -1,6 +1,6 @@
 // Pseudo-random numbers, and a checksum.
 ghost use Rattle.std.specs.Prelude.{◌≡◌};
-ghost use Rattle.verdicts.specs.Draws.{turned, drawn, around};
+ghost use Rattle.verdicts.specs.Draws.{next_state, draw_of, around};
 
 /// A sequence of numbers that is the same in every run.
 #[derive(Drop)]
@@ -17,8 +17,8 @@ impl Draws {
 
     /// The next number, of 31 bits.
     pub(crate) fn next(&mut self) -> u64
-        ensures value { result ≡ drawn (turned self.old.state) }
-        ensures state { self.new.state ≡ turned self.old.state }
+        ensures value { result ≡ draw_of (next_state self.old.state) }
+        ensures state { self.new.state ≡ next_state self.old.state }
     {
         self.state = self
             .state
@@ -29,8 +29,8 @@ impl Draws {
 
     /// The next number from −half to half.
     pub(crate) fn around(&mut self, half: u16) -> i64
-        ensures value { result ≡ around half (drawn (turned self.old.state)) }
-        ensures state { self.new.state ≡ turned self.old.state }
+        ensures value { result ≡ around half (draw_of (next_state self.old.state)) }
+        ensures state { self.new.state ≡ next_state self.old.state }
     {
         centred(self.next(), half)
     }

@@ -3,4 +3,4 @@ use Rattle.filters.proofs.planes.normal.Goals as goal
 
 pub cross-requires : goal.cross-requires
 cross-requires c =
-    (reached c.edge.ensures (minus-reach c.requires.second c.requires.first) tt, reached c.edge-2.ensures (minus-reach c.requires.third c.requires.first) tt)
+    (reached c.minus.ensures (minus-reach c.requires.1 c.requires.0) tt, reached c.minus-2.ensures (minus-reach c.requires.2 c.requires.0) tt)

@@ -1,31 +1,23 @@
 use Rattle.std.proofs.Common.{◌+◌}
 use Rattle.motion.proofs.Subintervals.{valid-first}
-use Rattle.filters.proofs.Inside.{at_most, same-inside}
+use Rattle.filters.proofs.Inside.{all-in-reach, same-valid}
 use Rattle.filters.proofs.tests.Test.first_half.Goals as goal
 
-pub early-requires : goal.early-requires
-early-requires c = let t = c.args.self.now.shape in let v = c.args.self.now.valid in at_most t.scale v.0 t.p v.1
+pub first_portion-requires : goal.first_portion-requires
+first_portion-requires c = (all-in-reach c.args.self.now.shape c.args.self.now.valid).p
 
-pub early-requires-2 : goal.early-requires-2
-early-requires-2 c = let t = c.args.self.now.shape in let v = c.args.self.now.valid in at_most t.scale v.0 t.a v.2
+pub first_portion-requires-2 : goal.first_portion-requires-2
+first_portion-requires-2 c = (all-in-reach c.args.self.now.shape c.args.self.now.valid).a
 
-pub early-requires-3 : goal.early-requires-3
-early-requires-3 c = let t = c.args.self.now.shape in let v = c.args.self.now.valid in at_most t.scale v.0 t.b v.3
+pub first_portion-requires-3 : goal.first_portion-requires-3
+first_portion-requires-3 c = (all-in-reach c.args.self.now.shape c.args.self.now.valid).b
 
-pub early-requires-4 : goal.early-requires-4
-early-requires-4 c = let t = c.args.self.now.shape in let v = c.args.self.now.valid in at_most t.scale v.0 t.c v.4
+pub first_portion-requires-4 : goal.first_portion-requires-4
+first_portion-requires-4 c = (all-in-reach c.args.self.now.shape c.args.self.now.valid).c
 
 pub invariant_of-result : goal.invariant_of-result
 invariant_of-result c =
     let t = c.args.self.now.shape in
-    let v = valid-first t c.args.self.now.valid c.requires in
-    let k = t.scale + 1 in
     record {
-      valid = (
-        v.0,
-        same-inside k _ _ c.early.ensures v.1,
-        same-inside k _ _ c.early-2.ensures v.2,
-        same-inside k _ _ c.early-3.ensures v.3,
-        same-inside k _ _ c.early-4.ensures v.4,
-      );
+      valid = same-valid t.kind (t.scale + 1) c.first_portion.ensures c.first_portion-2.ensures c.first_portion-3.ensures c.first_portion-4.ensures (valid-first t c.args.self.now.valid c.requires);
     }

@@ -8,10 +8,10 @@ use Rattle.motion.specs.Vectors.{dot, cross}
 use Rattle.motion.specs.Laws.{Within, Far, on-x, on-y, on-z}
 
 -- ---- |·| of a sum, a difference and a product
-pub abs_neg : (a : ℤ) → nat_abs (neg_ℤ a) ≡ nat_abs a
-abs_neg (pos zero) = refl
-abs_neg (pos (suc n)) = refl
-abs_neg (negsuc n) = refl
+pub abs-neg : (a : ℤ) → nat_abs (neg_ℤ a) ≡ nat_abs a
+abs-neg (pos zero) = refl
+abs-neg (pos (suc n)) = refl
+abs-neg (negsuc n) = refl
 
 pub abs-add : (a b : ℤ) → nat_abs (a +ℤ b) ≤ nat_abs a + nat_abs b
 abs-add a b = omega (arith, ints)
@@ -21,8 +21,8 @@ abs-sub a b = omega (arith, ints)
 
 pub abs-mul : (a b : ℤ) → nat_abs (a *ℤ b) ≡ nat_abs a * nat_abs b
 abs-mul (pos a) (pos b) = refl
-abs-mul (pos a) (negsuc b) = abs_neg (pos (a * suc b))
-abs-mul (negsuc a) (pos b) = abs_neg (pos (suc a * b))
+abs-mul (pos a) (negsuc b) = abs-neg (pos (a * suc b))
+abs-mul (negsuc a) (pos b) = abs-neg (pos (suc a * b))
 abs-mul (negsuc a) (negsuc b) = refl
 
 -- a component of a cross product
@@ -60,13 +60,13 @@ cube q = pow-suc q 2 ∙ ap (λ (n : ℕ). n * q) (pow-suc q 1 ∙ ap (λ (n : �
 module _ (k n : ℕ) (v : V3) where
   choose : (nat_abs v.x * 2 ^ 49 ≤ 2 ^ k * n → nat_abs v.y * 2 ^ 49 ≤ 2 ^ k * n → nat_abs v.z * 2 ^ 49 ≤ 2 ^ k * n → ⊥)
       → Dec (2 ^ k * n ≤ nat_abs v.x * 2 ^ 49) → Dec (2 ^ k * n ≤ nat_abs v.y * 2 ^ 49) → Dec (2 ^ k * n ≤ nat_abs v.z * 2 ^ 49) → Far k n v
-  choose no_way (yes h) d e = on-x h
-  choose no_way (no f) (yes h) e = on-y h
-  choose no_way (no f) (no g) (yes h) = on-z h
-  choose no_way (no f) (no g) (no h) = absurd (no_way (omega arith) (omega arith) (omega arith))
+  choose no-way (yes h) d e = on-x h
+  choose no-way (no f) (yes h) e = on-y h
+  choose no-way (no f) (no g) (yes h) = on-z h
+  choose no-way (no f) (no g) (no h) = absurd (no-way (omega arith) (omega arith) (omega arith))
 
   far : (nat_abs v.x * 2 ^ 49 ≤ 2 ^ k * n → nat_abs v.y * 2 ^ 49 ≤ 2 ^ k * n → nat_abs v.z * 2 ^ 49 ≤ 2 ^ k * n → ⊥) → Far k n v
-  far no_way = choose no_way (dec_le _ _) (dec_le _ _) (dec_le _ _)
+  far no-way = choose no-way (dec_le _ _) (dec_le _ _) (dec_le _ _)
 
 -- ---- by the normal of two short vectors
 module _ (A L q x y z l m n d : ℕ) where
