@@ -1,6 +1,5 @@
-use Rattle.std.proofs.Common.{refl}
 use Rattle.motion.proofs.Worked.{cases}
 use Rattle.motion.proofs.laws.worked_cases.Goals as goal
 
-pub returns : goal.returns
-returns c = record { count = refl; cases = cases }
+pub returns-clause-cases : goal.returns-clause-cases
+returns-clause-cases c = cases
