@@ -24,7 +24,7 @@ pub use inspections::{Closed, Inspection, Refused, Worked, inspect};
 pub use kinds::ListKind;
 pub use lists::List;
 pub use names::{EeName, VfName};
-pub use pair_bytes::offers_in;
+pub use pair_bytes::{PairOffers, offers_in, pair_offers};
 pub use requests::{Answer, Request};
 pub use sheets::Rows;
 pub use tests::TestName;

@@ -1,22 +1,47 @@
 // Pairs of faces, as bytes.
 ghost use Rattle.std.specs.Prelude.{◌≡◌, IfOk};
-ghost use Rattle.inspection.specs.PairBytes.{offers_in};
+ghost use Rattle.inspection.specs.PairBytes.{offers_in, offers_left};
 
 use crate::requests::Request;
 use std::alloc::{AllocError, Global};
 
-/// The offers that these bytes hold: two face numbers of two bytes each, the lower byte first. A
-/// rest of under four bytes is skipped.
+/// The offers that are left of some bytes.
+#[derive(Clone, Copy)]
+pub struct PairOffers<'a> {
+    bytes: &'a [u8],
+}
+
+impl<'a> Iterator for PairOffers<'a> {
+    ghost use Rattle.std.specs.Iterator.{YieldsFirst, item_count};
+
+    type Item = Request;
+
+    ghost next_gives = { YieldsFirst offers_left };
+
+    ghost remaining = { item_count offers_left };
+
+    fn next(&mut self) -> Option<Request> {
+        let [a, b, c, d, rest @ ..] = self.bytes else {
+            return None;
+        };
+        let first = u16::from_le_bytes([*a, *b]);
+        let second = u16::from_le_bytes([*c, *d]);
+        self.bytes = rest;
+        Some(Request::Offer(first, second))
+    }
+}
+
+/// The offers that these bytes hold, one after another: two face numbers of two bytes each, the
+/// lower byte first. A rest of under four bytes is skipped.
+pub fn pair_offers(bytes: &[u8]) -> PairOffers<'_>
+    ensures { offers_left result ≡ offers_in bytes.now }
+{
+    PairOffers { bytes }
+}
+
+/// The same, all at once.
 pub fn offers_in(alloc: Global, bytes: &[u8]) -> Result<Vec<Request>, AllocError>
     ensures { IfOk result (λ v. v.items ≡ offers_in bytes.now) }
 {
-    let mut offers = Vec::new(alloc);
-    let mut rest = bytes;
-    while let [a, b, c, d, more @ ..] = rest {
-        let first = u16::from_le_bytes([*a, *b]);
-        let second = u16::from_le_bytes([*c, *d]);
-        offers.push(Request::Offer(first, second))?;
-        rest = more;
-    }
-    Ok(offers)
+    pair_offers(bytes).collect(alloc)
 }
