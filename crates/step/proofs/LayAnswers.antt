@@ -7,7 +7,7 @@ use Rattle.sheet.specs.Sheet.{onto_front}
 use Rattle.sheet.specs.declared.rows.Point.{Point}
 use Rattle.sheet.proofs.FirstFit.{no_fit}
 use Rattle.step.specs.Faults.{place, notice_of_step}
-use Rattle.step.specs.Laying.{check, after_point, rows_checks, with_ends, lay_checks}
+use Rattle.step.specs.Laying.{check, after_row, rows_checks, with_ends, lay_checks}
 use Rattle.step.specs.Steps.{Step}
 use Rattle.step.specs.declared.faults.StepFault.{StepFault}
 use Rattle.step.proofs.FieldLaws.{fit_none, Bytes}
@@ -15,7 +15,7 @@ use Rattle.step.proofs.StepLaws.{rows_back, rows-only}
 
 length-with_ends : (ps : List Point) (bs : List ℕ) → length (with_ends ps bs) ≡ length ps
 length-with_ends [] bs = refl
-length-with_ends (p ∷ ps) bs = let h = length-with_ends ps (after_point bs) in omega arith
+length-with_ends (p ∷ ps) bs = let h = length-with_ends ps (after_row bs) in omega arith
 
 front-is : (n : ℕ) (points after : List Point) (bs : List ℕ) → n ≤ length points → after ≡ onto_front (with_ends (take n points) bs) points → take n after ≡ with_ends (take n points) bs
 front-is n points after bs h e =

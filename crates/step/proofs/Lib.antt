@@ -1,10 +1,10 @@
+pub mod CountedLaws
 pub mod FieldLaws
+pub mod FirstField
 pub mod FrameLaws
 pub mod LayAnswers
 pub mod LongestRecord
-pub mod Passing
-pub mod PointAnswers
-pub mod PointLaws
+pub mod NextRow
+pub mod RowLaws
 pub mod StepLaws
-pub mod Tables
 pub mod WriteAnswers

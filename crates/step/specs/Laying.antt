@@ -1,5 +1,5 @@
 -- Laying a record onto points: the checks at each place of it, and the ends that it gives.
-use Rattle.std.specs.Prelude.{◌≡◌, ℕ, ◌+◌, ◌*◌, ◌/◌, ◌%◌, Bool, cond, not, List, [], ◌∷◌, ◌++◌, length, take, drop, ℤ, ◌+ℤ◌, ◌==◌, nat_lt, slice_index}
+use Rattle.std.specs.Prelude.{ℕ, ◌+◌, ◌*◌, ◌/◌, ◌%◌, Bool, not, if◌then◌else◌, List, [], ◌∷◌, ◌++◌, length, take, drop, ℤ, ◌+ℤ◌, ◌==◌, nat_lt, slice_index}
 use Rattle.std.proofs.Common.{to_z}
 use Rattle.std.specs.Int.{w16}
 use Rattle.sheet.specs.Checks.{Check}
@@ -23,16 +23,22 @@ move_in bs = to_z w16 (slice_index bs 0 + slice_index bs 1 * 256)
 
 -- the checks of a field whose bit stands, or of one that is not there; s is the start as it counts
 abbrev pub field_checks : At → Bool → ℤ → List ℕ → List Check
-field_checks a stands s bs = cond stands (check (nat_lt (length bs) 2) 8 a ∷ (check (is_zero (move_in bs)) 10 a ∷ (check (not (in_range (s +ℤ move_in bs))) 11 a ∷ []))) []
+field_checks a stands s bs =
+    if stands then
+    check (nat_lt (length bs) 2) 8 a
+    ∷ (check (is_zero (move_in bs)) 10 a
+    ∷ (check (not (in_range (s +ℤ move_in bs))) 11 a
+    ∷ []))
+    else []
 
 -- the end that it gives, and the bytes after it
 abbrev pub end_in : Bool → ℤ → List ℕ → ℤ
-end_in stands s bs = cond stands (s +ℤ move_in bs) s
+end_in stands s bs = if stands then s +ℤ move_in bs else s
 
 abbrev pub after_field : Bool → List ℕ → List ℕ
-after_field stands bs = cond stands (drop 2 bs) bs
+after_field stands bs = if stands then drop 2 bs else bs
 
--- A POINT
+-- THE FIELDS OF A ROW
 
 -- bit k of a map stands: k is 1, 2 or 4
 abbrev pub bit_stands : ℕ → ℕ → Bool
@@ -59,40 +65,48 @@ module _ (m : ℕ) where
 
   -- the end that they give
   abbrev pub ends_of : Coords → List ℕ → Coords
-  ends_of s xs = record { x = end_in (bit_stands m 1) s.x xs; y = end_in (bit_stands m 2) s.y (after_x xs); z = end_in (bit_stands m 4) s.z (after_y xs) }
+  ends_of s xs =
+      record {
+        x = end_in (bit_stands m 1) s.x xs;
+        y = end_in (bit_stands m 2) s.y (after_x xs);
+        z = end_in (bit_stands m 4) s.z (after_y xs);
+      }
+
+-- A ROW
 
 abbrev pub map_in : List ℕ → ℕ
 map_in bs = slice_index bs 0
 
--- the checks of a point, its end, and what follows it
-abbrev pub point_checks : ℕ → Coords → List ℕ → List Check
-point_checks i s bs = check (length bs == 0) 8 (place i 0) ∷ (check (nat_lt 7 (map_in bs)) 9 (place i 0) ∷ fields_checks (map_in bs) i s (drop 1 bs))
+-- the checks of the row of point i, its end, and what follows it in the record
 
-abbrev pub end_of : Coords → List ℕ → Coords
-end_of s bs = ends_of (map_in bs) s (drop 1 bs)
+abbrev pub row_checks : ℕ → Point → List ℕ → List Check
+row_checks i p bs =
+    check (length bs == 0) 8 (place i 0)
+    ∷ (check (nat_lt 7 (map_in bs)) 9 (place i 0)
+    ∷ fields_checks (map_in bs) i (counted p.start) (drop 1 bs))
 
-abbrev pub after_point : List ℕ → List ℕ
-after_point bs = after_fields (map_in bs) (drop 1 bs)
+abbrev pub end_of : Point → List ℕ → Coords
+end_of p bs = ends_of (map_in bs) (counted p.start) (drop 1 bs)
+
+abbrev pub after_row : List ℕ → List ℕ
+after_row bs = after_fields (map_in bs) (drop 1 bs)
+
+-- the row with its new end; its start keeps what it holds
+abbrev pub with_end : Point → List ℕ → Point
+with_end p bs = record { start = p.start; end = end_of p bs }
 
 -- A TABLE
 
+-- the checks of rows from point i on: no byte follows the last
 abbrev pub rows_checks : ℕ → List Point → List ℕ → List Check
 rows_checks i [] bs = check (not (length bs == 0)) 12 (place 0 0) ∷ []
-rows_checks i (p ∷ ps) bs = point_checks i (counted p.start) bs ++ rows_checks (i + 1) ps (after_point bs)
+rows_checks i (p ∷ ps) bs = row_checks i p bs ++ rows_checks (i + 1) ps (after_row bs)
 
--- what is left of the rows when f leaves so much of each, given its new end
-abbrev pub rows_left : (Point → Coords → Point) → List Point → List ℕ → List Point
-rows_left f [] bs = []
-rows_left f (p ∷ ps) bs = f p (end_of (counted p.start) bs) ∷ rows_left f ps (after_point bs)
-
--- f leaves each row as it was
-abbrev pub IsKept : (Point → Coords → Point) → Type 0
-IsKept f = (p : Point) (e : Coords) → f p e ≡ p
-
--- the rows with their new ends; starts keep what they hold
 abbrev pub with_ends : List Point → List ℕ → List Point
-with_ends ps bs = rows_left (λ p e. record { start = p.start; end = e }) ps bs
+with_ends [] bs = []
+with_ends (p ∷ ps) bs = with_end p bs ∷ with_ends ps (after_row bs)
 
 -- all checks of a record, for the first n rows of a table
 abbrev pub lay_checks : ℕ → List Point → List ℕ → List Check
-lay_checks n points bs = check (nat_lt (length points) n) 13 (place 0 0) ∷ rows_checks 0 (take n points) bs
+lay_checks n points bs =
+    check (nat_lt (length points) n) 13 (place 0 0) ∷ rows_checks 0 (take n points) bs

@@ -5,7 +5,7 @@ mod faults;
 mod fields;
 mod frames;
 mod laying;
-mod points;
+mod rows;
 mod writing;
 
 pub use faults::{At, StepFault, WriterFault};

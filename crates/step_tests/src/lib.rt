@@ -6,10 +6,10 @@ mod drafts;
 #[cfg(test)]
 mod frames;
 #[cfg(test)]
+mod laying;
+#[cfg(test)]
 mod refused;
 #[cfg(test)]
 mod round_trips;
-#[cfg(test)]
-mod with_ends;
 #[cfg(test)]
 mod written;

@@ -20,5 +20,5 @@ returns c =
       fault = a;
       points = t;
       only = lay-only c.lay_rows.result n ps qs bs (λ k. (c.type_inv.bytes k).fits) a t;
-      back = λ rows h s. lay-back c.lay_rows.result n ps qs rows bs a t h s;
+      back = λ ends h s. lay-back c.lay_rows.result n ps qs ends bs a t h s;
     }

@@ -1,30 +1,33 @@
-// What a record says of one point.
+// What a record says of one row.
 ghost use Rattle.std.specs.Prelude.{◌≡◌, IfOk};
 ghost use Rattle.sheet.specs.Checks.{first_fit, fault_notice};
+ghost use Rattle.sheet.specs.Counted.{counted};
 ghost use Rattle.step.specs.Faults.{notice_of_step};
-ghost use Rattle.step.specs.Laying.{point_checks, end_of, after_point, fields_checks, ends_of, after_fields};
+ghost use Rattle.step.specs.Laying.{row_checks, with_end, after_row, fields_checks, ends_of, after_fields};
 
 use crate::faults::{At, StepFault};
 use crate::fields::read_field;
-use sheet::Coords;
+use sheet::{Coords, Point};
 
-/// The end of a point that counts to start at `start`, and the rest of the record.
-pub(crate) fn read_point(
-    bytes: &[u8],
-    start: Coords,
-    point: u32,
-) -> Result<(Coords, &[u8]), StepFault>
-    ensures fault { fault_notice notice_of_step result ≡ first_fit (point_checks point start bytes.now) }
-    ensures end { IfOk result (λ p. p.0 ≡ end_of start bytes.now) }
-    ensures rest { IfOk result (λ p. p.1.now ≡ after_point bytes.now) }
+/// The row with the end that the front of a record gives, and the rest of the record. It is the row of point `number`.
+pub(crate) fn read_row(bytes: &[u8], row: Point, number: u32) -> Result<(Point, &[u8]), StepFault>
+    ensures fault { fault_notice notice_of_step result ≡ first_fit (row_checks number row bytes.now) }
+    ensures row { IfOk result (λ p. p.0 ≡ with_end row bytes.now) }
+    ensures rest { IfOk result (λ p. p.1.now ≡ after_row bytes.now) }
 {
+    let at = At {
+        point: number,
+        field: 0,
+    };
     let [map, fields @ ..] = bytes else {
-        return Err(StepFault::EndsEarly(At { point, field: 0 }));
+        return Err(StepFault::EndsEarly(at));
     };
     if *map > 7 {
-        return Err(StepFault::MapTooLarge(At { point, field: 0 }));
+        return Err(StepFault::MapTooLarge(at));
     }
-    read_fields(fields, *map, start, point)
+    let (end, rest) = read_fields(fields, *map, row.start.counted(), number)?;
+    let start = row.start;
+    Ok((Point { start, end }, rest))
 }
 
 /// The end that the fields after a map give, and the rest of the record.
