@@ -1,21 +1,27 @@
 -- Which check fits first, of some checks and those after them.
-use Rattle.std.proofs.Common.{◌≡◌, Bool, true, false, cond, List, [], ◌∷◌, ◌++◌, Some, None, Option, refl, ap, ◌∙◌, arith}
+use Rattle.std.proofs.Common.{◌≡◌, Bool, true, false, cond, List, [], ◌∷◌, ◌++◌, Some, None, Option, refl, ap, ◌∙◌}
+use Rattle.std.specs.Option.{option_or}
 use Rattle.sheet.specs.Checks.{Check, first_fit}
 use Rattle.sheet.specs.declared.notices.Notice.{Notice}
 
+pub first_fit_append : (cs ds : List Check) → first_fit (cs ++ ds) ≡ option_or (first_fit cs) (first_fit ds)
+first_fit_append [] ds = refl
+first_fit_append (c ∷ cs) ds = ap (cond c.fits (Some c.tells)) (first_fit_append cs ds) ∙ by_fit c.fits c.tells (first_fit cs) (first_fit ds)
+  where
+    by_fit : (b : Bool) (n : Notice) (o p : Option Notice) → cond b (Some n) (option_or o p) ≡ option_or (cond b (Some n) o) p
+    by_fit true n o p = refl
+    by_fit false n o p = refl
+
+pub first_of_three : (cs ds es : List Check) → first_fit (cs ++ (ds ++ es)) ≡ option_or (first_fit cs) (option_or (first_fit ds) (first_fit es))
+first_of_three cs ds es = first_fit_append cs (ds ++ es) ∙ ap (option_or (first_fit cs)) (first_fit_append ds es)
+
 -- of the front none fits
 pub past : (cs ds : List Check) → None ≡ first_fit cs → first_fit ds ≡ first_fit (cs ++ ds)
-past [] ds e = refl
-past (c ∷ cs) ds e = by_fit c.fits c.tells (first_fit cs) (first_fit ds) (first_fit (cs ++ ds)) (past cs ds) e
-  where
-    by_fit : (b : Bool) (n : Notice) (o p q : Option Notice) → (None ≡ o → p ≡ q) → None ≡ cond b (Some n) o → p ≡ cond b (Some n) q
-    by_fit true n o p q h e = cc
-    by_fit false n o p q h e = h e
+past cs ds e = rw (first_fit_append cs ds, ← e) refl
 
 -- one of the front fits
 pub stop : (cs ds : List Check) (n : Notice) → Some n ≡ first_fit cs → Some n ≡ first_fit (cs ++ ds)
-stop [] ds n e = cc
-stop (c ∷ cs) ds n e = grind (arith, stop cs ds n)
+stop cs ds n e = rw (first_fit_append cs ds, ← e) refl
 
 -- where none fits, the front one does not
 pub no_fit : (c : Check) (cs : List Check) → first_fit (c ∷ cs) ≡ None → (c.fits ≡ false) × (first_fit cs ≡ None)
@@ -26,11 +32,11 @@ no_fit c cs e = by_fit c.fits c.tells (first_fit cs) e
     by_fit false n o e = (refl, e)
 
 pub none_parts : (cs ds : List Check) → first_fit (cs ++ ds) ≡ None → (first_fit cs ≡ None) × (first_fit ds ≡ None)
-none_parts [] ds e = (refl, e)
-none_parts (c ∷ cs) ds e =
-    let p = no_fit c (cs ++ ds) e in
-    let q = none_parts cs ds p.1 in
-    (ap (λ (b : Bool). cond b (Some c.tells) (first_fit cs)) p.0 ∙ q.0, q.1)
+none_parts cs ds e = both (first_fit cs) (first_fit ds) (rw first_fit_append at e)
+  where
+    both : (o p : Option Notice) → option_or o p ≡ None → (o ≡ None) × (p ≡ None)
+    both None p e = (refl, e)
+    both (Some n) p e = (cc, cc)
 
 -- not one fits
 abbrev pub NoneFits : List Check → Type 0

@@ -1,3 +1,4 @@
 pub mod FirstFit
+pub mod Sound
 pub mod TextLines
 pub mod Walking

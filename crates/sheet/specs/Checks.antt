@@ -1,5 +1,5 @@
 -- Which fault comes: that of the first check that fits, of all checks in the order of the text.
-use Rattle.std.specs.Prelude.{Bool, cond, List, [], ◌∷◌, Some, None, Ok, Err, Option, Result}
+use Rattle.std.specs.Prelude.{Bool, if◌then◌else◌, List, [], ◌∷◌, Some, None, Ok, Err, Option, Result}
 use Rattle.sheet.specs.declared.notices.Notice.{Notice}
 
 -- a row of the fault table at one place of a text: whether it fits there, and what it then tells
@@ -10,7 +10,7 @@ pub record Check : Type 0 where
 -- what the first check that fits tells
 abbrev pub first_fit : List Check → Option Notice
 first_fit [] = None
-first_fit (c ∷ cs) = cond c.fits (Some c.tells) (first_fit cs)
+first_fit (c ∷ cs) = if c.fits then Some c.tells else first_fit cs
 
 -- what a result tells by its fault, if it has one
 abbrev pub fault_notice : {X E : Type 0} → (E → Notice) → Result X E → Option Notice

@@ -2,6 +2,7 @@ pub mod Bytes
 pub mod Checks
 pub mod Counted
 pub mod Faults
+pub mod IsSheet
 pub mod Lines
 pub mod Notices
 pub mod Numbered

@@ -18,4 +18,7 @@ name_of Report = codes "report"
 -- the word fault, the number, the layer and the two places, one space between two of them
 abbrev pub fault_line : Notice → List ℕ
 fault_line n =
-    codes "fault " ++ (decimal n.number ++ (codes " " ++ (name_of n.layer ++ (codes " " ++ (decimal n.first ++ (codes " " ++ decimal n.second))))))
+    codes "fault " ++ (decimal n.number
+    ++ (codes " " ++ (name_of n.layer
+    ++ (codes " " ++ (decimal n.first
+    ++ (codes " " ++ decimal n.second))))))

@@ -1,4 +1,5 @@
--- Tables in which the row of a line is written after those above the line, and what some lines add to the counts.
+-- Tables in which the row of a line is written after those above the line, and what some lines
+-- add to the counts.
 use Rattle.std.specs.Prelude.{ℕ, List, fold, slice_set}
 use Rattle.sheet.specs.Sheet.{entry_of, counting}
 use Rattle.sheet.specs.declared.counts.Counts.{Counts}

@@ -1,4 +1,5 @@
--- The format of a sheet: the checks at each place of its text, and what a text says that passes them all.
+-- The format of a sheet: the checks at each place of its text, and what a text says that passes
+-- them all.
 use Rattle.std.specs.Prelude.{ℕ, ◌+◌, ◌-◌, min, Bool, true, not, ◌&&◌, List, [], ◌∷◌, ◌++◌, length, drop, pos, ◌==◌, int_le, nat_lt, unsigned_abs}
 use Rattle.std.specs.List.{list_any, flat_map}
 use Rattle.sheet.specs.Checks.{Check}
@@ -68,13 +69,15 @@ corner_checks points s earlier f =
 
 abbrev pub point_checks : ℕ → Fields → List Check
 point_checks n fs =
-    coordinate_checks (spot n 1) fs.first ++ (coordinate_checks (spot n 2) fs.second ++ coordinate_checks (spot n 3) fs.third)
+    coordinate_checks (spot n 1) fs.first
+    ++ (coordinate_checks (spot n 2) fs.second
+    ++ coordinate_checks (spot n 3) fs.third)
 
 abbrev pub face_checks : ℕ → ℕ → Fields → List Check
 face_checks n points fs =
     corner_checks points (spot n 1) [] fs.first
     ++ (corner_checks points (spot n 2) (point_named fs.first ∷ []) fs.second
-    ++ corner_checks points (spot n 3) (point_named fs.first ∷ (point_named fs.second ∷ [])) fs.third)
+    ++ corner_checks points (spot n 3) (point_named fs.first ∷ point_named fs.second ∷ []) fs.third)
 
 abbrev pub content_checks : ℕ → ℕ → Content → List Check
 content_checks n points skipped = []
@@ -88,10 +91,12 @@ abbrev pub at_rest : Coords → Point
 at_rest p = record { start = p; end = p }
 
 abbrev pub point_from : Fields → Point
-point_from fs = at_rest (record { x = value_of fs.first; y = value_of fs.second; z = value_of fs.third })
+point_from fs =
+    at_rest (record { x = value_of fs.first; y = value_of fs.second; z = value_of fs.third })
 
 abbrev pub face_from : Fields → Face
-face_from fs = record { a = point_named fs.first; b = point_named fs.second; c = point_named fs.third }
+face_from fs =
+    record { a = point_named fs.first; b = point_named fs.second; c = point_named fs.third }
 
 abbrev pub entry_from : Content → Entry
 entry_from skipped = entry.Nothing
@@ -140,12 +145,15 @@ has_place room above (entry.Face f) = nat_lt above.faces room.faces
 -- all checks of a numbered line, below what stands above it
 abbrev pub line_checks : Counts → Counts → ℕ × List ℕ → List Check
 line_checks room above l =
-    content_checks l.0 above.points (content_of l.1) ++ (check (not (has_place room above (entry_of l.1))) 7 Sheet (spot l.0 0) ∷ [])
+    content_checks l.0 above.points (content_of l.1)
+    ++ (check (not (has_place room above (entry_of l.1))) 7 Sheet (spot l.0 0)
+    ∷ [])
 
 -- those of one line after another
 abbrev pub lines_checks : Counts → Counts → List (ℕ × List ℕ) → List Check
 lines_checks room above [] = []
-lines_checks room above (l ∷ ls) = line_checks room above l ++ lines_checks room (counting above (entry_of l.1)) ls
+lines_checks room above (l ∷ ls) =
+    line_checks room above l ++ lines_checks room (counting above (entry_of l.1)) ls
 
 -- the room in tables of so many places
 abbrev pub room_in : ℕ → ℕ → Counts
@@ -153,11 +161,15 @@ room_in points faces = record { points = min points point_limit; faces = min fac
 
 -- all checks of a text, for such tables
 abbrev pub sheet_checks : List ℕ → ℕ → ℕ → List Check
-sheet_checks text points faces = check (nat_lt text_limit (length text)) 6 Sheet (spot 0 0) ∷ lines_checks (room_in points faces) none (numbered text)
+sheet_checks text points faces =
+    check (nat_lt text_limit (length text)) 6 Sheet (spot 0 0)
+    ∷ lines_checks (room_in points faces) none (numbered text)
 
 -- the draft of a text that passes them
 abbrev pub draft_of : List ℕ → Draft
-draft_of text = record { points = length (points_in (numbered text)); faces = length (faces_in (numbered text)) }
+draft_of text =
+    let ls = numbered text in
+    record { points = length (points_in ls); faces = length (faces_in ls) }
 
 -- rows in place of the first of a table, and the rest of it
 abbrev pub onto_front : {X : Type 0} → List X → List X → List X

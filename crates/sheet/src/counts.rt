@@ -1,5 +1,5 @@
 // How many points and faces: those above a line, or those that there is room for.
-ghost use Rattle.std.specs.Prelude.{◌≡◌, true};
+ghost use Rattle.std.specs.Prelude.{◌≡◌, IsTrue};
 ghost use Rattle.sheet.specs.Passes.{widest};
 ghost use Rattle.sheet.specs.Sheet.{counting, has_place};
 
@@ -30,7 +30,7 @@ impl Counts {
 
     /// These and the row of `entry`.
     pub(crate) fn counting(self, entry: Entry) -> Counts
-        requires { has_place widest self entry ≡ true }
+        requires { IsTrue (has_place widest self entry) }
         ensures { result ≡ counting self entry }
     {
         match entry {

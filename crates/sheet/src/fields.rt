@@ -64,7 +64,8 @@ fn with_sign(n: u32, negative: bool) -> i32
 
 /// The number that one to five digits write.
 fn magnitude(digits: &[u8], at: Spot) -> Result<u32, FieldFault>
-    ensures fault { fault_notice notice_of_field result ≡ first_fit (magnitude_checks at digits.now) }
+    ensures fault { fault_notice notice_of_field result
+        ≡ first_fit (magnitude_checks at digits.now) }
     ensures value { IfOk result (λ n. n ≡ digits_after 0 digits.now) }
     ensures small { IfOk result (λ n. n < 10 ^ 5) }
 {

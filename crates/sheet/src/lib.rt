@@ -14,6 +14,6 @@ mod splitting;
 
 pub use drafts::Draft;
 pub use faults::{FieldFault, LineFault, SheetFault, Spot};
-pub use notices::{Layer, Notice};
+pub use notices::{FaultLine, Layer, Notice};
 pub use reader::{TEXT_LIMIT, read_sheet};
 pub use rows::{COORDINATE_BOUND, Coords, FACE_LIMIT, Face, POINT_LIMIT, Point, coordinate_of};

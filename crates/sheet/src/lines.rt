@@ -1,11 +1,11 @@
 // What one line says.
-ghost use Rattle.std.specs.Prelude.{◌≡◌, false, ◌∷◌, MatchResult, IfOk};
+ghost use Rattle.std.specs.Prelude.{◌≡◌, ◌∷◌, MatchResult, IfOk, IsFalse};
 ghost use Rattle.sheet.specs.Bytes.{space};
 ghost use Rattle.sheet.specs.Checks.{first_fit, fault_notice};
 ghost use Rattle.sheet.specs.Faults.{notice_of_line};
 ghost use Rattle.sheet.specs.Lines.{content_of, fields_of, starts_with_space};
 ghost use Rattle.sheet.specs.Numerals.{value_of};
-ghost use Rattle.sheet.specs.Sheet.{coordinate_checks, corner_checks, point_checks, face_checks, content_checks, point_named, point_from, face_from, entry_of};
+ghost use Rattle.sheet.specs.Sheet.{coordinate_checks, corner_checks, point_checks, face_checks, content_checks, spot, point_named, point_from, face_from, entry_of};
 ghost use Rattle.sheet.specs.declared.faults.LineFault.TheVariants.{NoSuchStart};
 
 use crate::faults::{LineFault, Spot};
@@ -23,7 +23,9 @@ pub(crate) enum Entry {
 
 /// What `line` says, where `points` points stand above it.
 pub(crate) fn read_line(line: Line<'_>, points: u16) -> Result<Entry, LineFault>
-    ensures fault { fault_notice notice_of_line result ≡ first_fit (content_checks line.entry.number points (content_of line.entry.bytes.now)) }
+    ensures fault { let content = content_of line.entry.bytes.now in
+        fault_notice notice_of_line result
+        ≡ first_fit (content_checks line.entry.number points content) }
     ensures entry { IfOk result (λ e. e ≡ entry_of line.entry.bytes.now) }
 {
     let number = line.number;
@@ -43,7 +45,8 @@ pub(crate) fn read_line(line: Line<'_>, points: u16) -> Result<Entry, LineFault>
 
 /// What follows the space at the front of `rest`, in the line `line`.
 fn after_space(rest: &[u8], line: u32) -> Result<&[u8], LineFault>
-    ensures { MatchResult result (λ s. rest.now ≡ space ∷ s.now) (λ e. (starts_with_space rest.now ≡ false) × (e ≡ NoSuchStart (record { line = line; field = 0 }))) }
+    ensures { MatchResult result (λ s. rest.now ≡ space ∷ s.now)
+        (λ e. IsFalse (starts_with_space rest.now) × (e ≡ NoSuchStart (spot line 0))) }
 {
     match rest {
         [b' ', fields @ ..] => Ok(fields),
@@ -53,7 +56,8 @@ fn after_space(rest: &[u8], line: u32) -> Result<&[u8], LineFault>
 
 /// The point whose coordinates are the fields of `text`, in the line `line`. It rests.
 fn read_point(text: &[u8], line: u32) -> Result<Point, LineFault>
-    ensures fault { fault_notice notice_of_line result ≡ first_fit (point_checks line (fields_of text.now)) }
+    ensures fault { fault_notice notice_of_line result
+        ≡ first_fit (point_checks line (fields_of text.now)) }
     ensures point { IfOk result (λ p. p ≡ point_from (fields_of text.now)) }
 {
     let fields = split_fields(text);
@@ -65,7 +69,8 @@ fn read_point(text: &[u8], line: u32) -> Result<Point, LineFault>
 }
 
 fn coordinate(field: &[u8], at: Spot) -> Result<i16, LineFault>
-    ensures fault { fault_notice notice_of_line result ≡ first_fit (coordinate_checks at field.now) }
+    ensures fault { fault_notice notice_of_line result
+        ≡ first_fit (coordinate_checks at field.now) }
     ensures value { IfOk result (λ v. v ≡ value_of field.now) }
 {
     let value = number(field, at)?;
@@ -78,7 +83,8 @@ fn coordinate(field: &[u8], at: Spot) -> Result<i16, LineFault>
 
 /// The face whose corners the fields of `text` name, in the line `line`, below `points` points.
 fn read_face(text: &[u8], line: u32, points: u16) -> Result<Face, LineFault>
-    ensures fault { fault_notice notice_of_line result ≡ first_fit (face_checks line points (fields_of text.now)) }
+    ensures fault { fault_notice notice_of_line result
+        ≡ first_fit (face_checks line points (fields_of text.now)) }
     ensures face { IfOk result (λ f. f ≡ face_from (fields_of text.now)) }
 {
     let fields = split_fields(text);
@@ -90,7 +96,8 @@ fn read_face(text: &[u8], line: u32, points: u16) -> Result<Face, LineFault>
 
 /// The number, from 0, of the point that a field names by its number from 1, other than the `earlier` ones.
 fn corner(field: &[u8], at: Spot, points: u16, earlier: &[u16]) -> Result<u16, LineFault>
-    ensures fault { fault_notice notice_of_line result ≡ first_fit (corner_checks points at earlier.now field.now) }
+    ensures fault { fault_notice notice_of_line result
+        ≡ first_fit (corner_checks points at earlier.now field.now) }
     ensures named { IfOk result (λ n. n ≡ point_named field.now) }
 {
     let value = number(field, at)?;

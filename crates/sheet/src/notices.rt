@@ -1,8 +1,14 @@
 // How a fault is told: one line for every fault of every layer.
-ghost use Rattle.std.specs.Prelude.{Some};
+ghost use Rattle.std.specs.Prelude.{◌≡◌, ◌+◌, ◌≤◌, ◌++◌, length, codes, decimal, Some};
+ghost use Rattle.arrayvec.specs.ArrayString.{array_string_len};
 ghost use Rattle.sheet.specs.Notices.{name_of, fault_line};
 
+use arrayvec::ArrayString;
+use itoa::Buffer;
 use std::fmt;
+
+/// The longest line of a fault: a number of three digits, a name of seven letters and two places of ten digits.
+pub type FaultLine = ArrayString<39>;
 
 /// What refused: the reader of a field, of a line, of a sheet or of a step, the writer of a step, a call of an inspection (its
 /// opening, an offer, a window), or the report.
@@ -28,21 +34,60 @@ pub struct Notice {
     pub second: u32,
 }
 
+impl Layer {
+    /// The layer's name in a fault's line.
+    fn name(self) -> &'static str
+        ensures text { result.now ≡ name_of self }
+        ensures short { length result.now ≤ 7 }
+    {
+        match self {
+            Layer::Field => "field",
+            Layer::Line => "line",
+            Layer::Sheet => "sheet",
+            Layer::Step => "step",
+            Layer::Writer => "writer",
+            Layer::Opening => "opening",
+            Layer::Offer => "offer",
+            Layer::Window => "window",
+            Layer::Report => "report",
+        }
+    }
+}
+
+impl Notice {
+    /// The line that tells the fault, without a line feed.
+    pub fn line(self) -> FaultLine
+        ensures { result.bytes ≡ fault_line self }
+    {
+        let mut digits = Buffer::new();
+        let mut line = ArrayString::new();
+        line.push_str("fault ");
+        line.push_str(digits.format(self.number));
+        line.push_str(" ");
+        line.push_str(self.layer.name());
+        put_place(&mut line, self.first);
+        put_place(&mut line, self.second);
+        line
+    }
+}
+
+/// A space and a place.
+fn put_place(line: &mut FaultLine, place: u32)
+    requires { array_string_len line.old + 11 ≤ 39 }
+    ensures text { line.new.bytes ≡ line.old.bytes ++ (codes " " ++ decimal place) }
+    ensures len { array_string_len line.new ≤ array_string_len line.old + 11 }
+{
+    let mut digits = Buffer::new();
+    line.push_str(" ");
+    line.push_str(digits.format(place));
+}
+
 impl fmt::Display for Layer {
     ghost output = { λ l. Some (name_of l) };
 
     fn fmt<W: fmt::Write>(&self, f: &mut fmt::Formatter<W>) -> fmt::Result {
-        match self {
-            Layer::Field => write!(f, "field"),
-            Layer::Line => write!(f, "line"),
-            Layer::Sheet => write!(f, "sheet"),
-            Layer::Step => write!(f, "step"),
-            Layer::Writer => write!(f, "writer"),
-            Layer::Opening => write!(f, "opening"),
-            Layer::Offer => write!(f, "offer"),
-            Layer::Window => write!(f, "window"),
-            Layer::Report => write!(f, "report"),
-        }
+        let name = self.name();
+        write!(f, "{name}")
     }
 }
 
@@ -50,10 +95,7 @@ impl fmt::Display for Notice {
     ghost output = { λ n. Some (fault_line n) };
 
     fn fmt<W: fmt::Write>(&self, f: &mut fmt::Formatter<W>) -> fmt::Result {
-        let number = self.number;
-        let layer = self.layer;
-        let first = self.first;
-        let second = self.second;
-        write!(f, "fault {number} {layer} {first} {second}")
+        let line = self.line();
+        write!(f, "{line}")
     }
 }

@@ -1,7 +1,8 @@
 // Reads a sheet in two passes: the first finds the first fault, or that there is none; the second writes the rows.
-ghost use Rattle.std.specs.Prelude.{◌≡◌, ◌≤◌, true, length, is_ok, IfOk, if◌then◌else◌, None};
+ghost use Rattle.std.specs.Prelude.{◌≡◌, ◌≤◌, length, is_ok, take, IfOk, IsTrue, if◌then◌else◌, None};
 ghost use Rattle.sheet.specs.Checks.{first_fit, fault_notice};
 ghost use Rattle.sheet.specs.Faults.{notice_of_sheet};
+ghost use Rattle.sheet.specs.IsSheet.{IsSheet};
 ghost use Rattle.sheet.specs.Lines.{numbered};
 ghost use Rattle.sheet.specs.Numbered.{line_read};
 ghost use Rattle.sheet.specs.Passes.{total, with_point, with_face};
@@ -18,15 +19,22 @@ use crate::splitting::{Line, lines_in};
 pub const TEXT_LIMIT: usize = 65536;
 
 /// Reads a sheet into the first rows of the caller's tables; the other rows are as they were. On a fault all are.
+///
+/// What is accepted is a sheet (`meaning`).
 pub fn read_sheet(
     text: &[u8],
     points: &mut [Point],
     faces: &mut [Face],
 ) -> Result<Draft, SheetFault>
-    ensures fault { fault_notice notice_of_sheet result ≡ first_fit (sheet_checks text.now (length points.old) (length faces.old)) }
+    ensures fault { fault_notice notice_of_sheet result
+        ≡ first_fit (sheet_checks text.now (length points.old) (length faces.old)) }
     ensures draft { IfOk result (λ d. d ≡ draft_of text.now) }
-    ensures points { points.new ≡ (if is_ok result then onto_front (points_in (numbered text.now)) points.old else points.old) }
-    ensures faces { faces.new ≡ (if is_ok result then onto_front (faces_in (numbered text.now)) faces.old else faces.old) }
+    ensures meaning { IfOk result
+        (λ d. IsSheet (take d.points points.new) (take d.faces faces.new)) }
+    ensures points { let rows = points_in (numbered text.now) in
+        points.new ≡ (if is_ok result then onto_front rows points.old else points.old) }
+    ensures faces { let rows = faces_in (numbered text.now) in
+        faces.new ≡ (if is_ok result then onto_front rows faces.old else faces.old) }
 {
     if text.len() > TEXT_LIMIT {
         return Err(SheetFault::TextTooLong);
@@ -45,7 +53,8 @@ pub fn read_sheet(
 /// The counts of the sheet that `text` writes, or its first fault.
 fn survey(text: &[u8], room: Counts) -> Result<Counts, SheetFault>
     requires { length text.now ≤ text_limit }
-    ensures fault { fault_notice notice_of_sheet result ≡ first_fit (lines_checks room none (numbered text.now)) }
+    ensures fault { fault_notice notice_of_sheet result
+        ≡ first_fit (lines_checks room none (numbered text.now)) }
     ensures counts { IfOk result (λ c. c ≡ total none (numbered text.now)) }
 {
     let mut above = Counts::NONE;
@@ -77,9 +86,10 @@ fn fill(text: &[u8], room: Counts, points: &mut [Point], faces: &mut [Face])
 
 /// What `line` says, below `above`, if it has no fault and there is room for its row.
 fn admit(line: Line<'_>, above: Counts, room: Counts) -> Result<Entry, SheetFault>
-    ensures fault { fault_notice notice_of_sheet result ≡ first_fit (line_checks room above (line_read line.entry)) }
+    ensures fault { fault_notice notice_of_sheet result
+        ≡ first_fit (line_checks room above (line_read line.entry)) }
     ensures entry { IfOk result (λ e. e ≡ entry_of line.entry.bytes.now) }
-    ensures place { IfOk result (λ e. has_place room above e ≡ true) }
+    ensures place { IfOk result (λ e. IsTrue (has_place room above e)) }
 {
     let entry = read_line(line, above.points)?;
     if !room.has_place(entry, above) {
@@ -93,7 +103,8 @@ fn admit(line: Line<'_>, above: Counts, room: Counts) -> Result<Entry, SheetFaul
 
 /// Writes the row of `entry` into its table, after those of `above`.
 fn store(entry: Entry, above: Counts, points: &mut [Point], faces: &mut [Face])
-    requires { has_place (record { points = length points.old; faces = length faces.old }) above entry ≡ true }
+    requires { IsTrue
+        (has_place (record { points = length points.old; faces = length faces.old }) above entry) }
     ensures points { points.new ≡ with_point above entry points.old }
     ensures faces { faces.new ≡ with_face above entry faces.old }
 {

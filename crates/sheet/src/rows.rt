@@ -1,5 +1,5 @@
 // Rows of the caller's tables.
-ghost use Rattle.std.specs.Prelude.{◌≡◌, true};
+ghost use Rattle.std.specs.Prelude.{◌≡◌, IsTrue};
 ghost use Rattle.sheet.specs.Counted.{coordinate_of, counted, in_range};
 
 /// A coordinate lies from −4,096 to 4,096.
@@ -48,7 +48,7 @@ impl Coords {
 /// A coordinate as it counts.
 pub fn coordinate_of(value: i16) -> i16
     ensures value { result ≡ coordinate_of value }
-    ensures within { in_range result ≡ true }
+    ensures within { IsTrue (in_range result) }
 {
     if value < -COORDINATE_BOUND {
         return -COORDINATE_BOUND;

@@ -3,9 +3,8 @@ use Rattle.std.proofs.Common.{◌≡◌, Bool, true, false, cond, ℤ, refl, ◌
 use lib.Signed.{lt_z, le_z}
 use Rattle.std.proofs.lemmas.Int.{ints}
 use Rattle.std.proofs.lemmas.Bool.{cond-false, and_from, and_parts}
-use Rattle.sheet.specs.Counted.{least, greatest, in_range, coordinate_of, counted}
+use Rattle.sheet.specs.Counted.{least, greatest, in_range, coordinate_of, counted, within}
 use Rattle.sheet.specs.declared.rows.Coords.{Coords}
-use Rattle.step.specs.Steps.{within}
 
 not-under : (a b : ℤ) → le_z a b ≡ true → lt_z b a ≡ false
 not-under a b e = grind (arith, ints)

@@ -6,7 +6,7 @@ use Rattle.sheet.specs.Checks.{first_fit}
 use Rattle.sheet.specs.declared.notices.Notice.{Notice}
 use Rattle.sheet.specs.declared.rows.Point.{Point}
 use Rattle.step.specs.Laying.{row_checks, after_row, with_end, rows_checks, with_ends}
-use Rattle.step.proofs.FirstField.{first_fit_append}
+use Rattle.sheet.proofs.FirstFit.{first_fit_append}
 
 checks_first : (ps : List Point) (i : ℕ) (d : Point) (bs : List ℕ) → i < length ps → first_fit (rows_checks i (drop i ps) bs) ≡ option_or (first_fit (row_checks i (get_or ps i d) bs)) (first_fit (rows_checks (i + 1) (drop (i + 1) ps) (after_row bs)))
 checks_first ps i d bs h =

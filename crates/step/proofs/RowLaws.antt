@@ -3,14 +3,13 @@ use Rattle.std.proofs.Common.{◌≡◌, ℕ, zero, suc, ◌+◌, ◌*◌, ◌/�
 use Rattle.std.proofs.lemmas.List.{append_assoc, get_or-drop}
 use Rattle.std.proofs.lemmas.Bool.{cond-true, cond-false, eq-eqb, ne_eqb, eqb-false, cases_eq, ltb-false, and_from, and_parts}
 use Rattle.sheet.specs.Checks.{Check, first_fit}
-use Rattle.sheet.specs.Counted.{in_range, counted}
+use Rattle.sheet.specs.Counted.{in_range, counted, within}
 use Rattle.sheet.specs.declared.rows.Coords.{Coords}
 use Rattle.sheet.specs.declared.rows.Point.{Point}
 use Rattle.sheet.proofs.FirstFit.{no_fit, none_parts}
 use Rattle.step.specs.Faults.{place}
 use Rattle.step.specs.Laying.{check, field_checks, after_field, bit_stands, map_in, after_x, after_y, row_checks, end_of, after_row}
 use Rattle.step.specs.Record.{is_zero, field_of, map_byte, moves_record}
-use Rattle.step.specs.Steps.{within}
 use Rattle.step.specs.declared.faults.At.{At}
 use Rattle.step.proofs.CountedLaws.{counted-within}
 use Rattle.step.proofs.FirstField.{fields_first}

@@ -3,13 +3,13 @@ use Rattle.std.proofs.Common.{◌≡◌, ℕ, ◌+◌, true, false, not, eqb, Li
 use Rattle.std.proofs.lemmas.List.{nil_from_length}
 use Rattle.std.proofs.lemmas.Bool.{and_parts, eqb-true, not-false}
 use Rattle.sheet.specs.Checks.{first_fit}
-use Rattle.sheet.specs.Counted.{in_range, coordinate_of, counted}
+use Rattle.sheet.specs.Counted.{in_range, coordinate_of, counted, within}
 use Rattle.sheet.specs.declared.rows.Point.{Point}
 use Rattle.sheet.proofs.FirstFit.{no_fit, none_parts}
 use Rattle.step.specs.Faults.{place}
 use Rattle.step.specs.Laying.{check, row_checks, end_of, after_row, with_end, rows_checks, with_ends}
 use Rattle.step.specs.Record.{moves_of, moves_record, point_record, record_of}
-use Rattle.step.specs.Steps.{within, Ends, Step, as_counted}
+use Rattle.step.specs.Steps.{Ends, Step, as_counted}
 use Rattle.step.proofs.FieldLaws.{Bytes}
 use Rattle.step.proofs.CountedLaws.{coordinate_of_same, coordinate_of-range, counted-within}
 use Rattle.step.proofs.RowLaws.{apart, none-append, RowBack, row-back, row-only}

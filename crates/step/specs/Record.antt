@@ -1,5 +1,5 @@
 -- Which bytes are the record of a row of points.
-use Rattle.std.specs.Prelude.{ℕ, ◌+◌, ◌/◌, ◌%◌, Bool, cond, List, [], ◌∷◌, ◌++◌, ℤ, ◌-ℤ◌, ◌==◌}
+use Rattle.std.specs.Prelude.{ℕ, ◌+◌, ◌/◌, ◌%◌, Bool, if◌then◌else◌, List, [], ◌∷◌, ◌++◌, ℤ, ◌-ℤ◌, ◌==◌}
 use Rattle.std.proofs.Common.{of_z}
 use Rattle.std.specs.Int.{w16}
 use Rattle.std.specs.List.{flat_map}
@@ -12,7 +12,12 @@ abbrev pub move_of : ℤ → ℤ → ℤ
 move_of s e = coordinate_of e -ℤ coordinate_of s
 
 abbrev pub moves_of : Point → Coords
-moves_of p = record { x = move_of p.start.x p.end.x; y = move_of p.start.y p.end.y; z = move_of p.start.z p.end.z }
+moves_of p =
+    record {
+      x = move_of p.start.x p.end.x;
+      y = move_of p.start.y p.end.y;
+      z = move_of p.start.z p.end.z;
+    }
 
 -- a move in two's complement: 16 bits, as a number
 abbrev pub word : ℤ → ℕ
@@ -23,11 +28,11 @@ is_zero z = word z == 0
 
 -- a field: nothing for a move of zero, else the move's two bytes, the lower first
 abbrev pub field_of : ℤ → List ℕ
-field_of z = cond (is_zero z) [] (word z % 256 ∷ (word z / 256 % 256 ∷ []))
+field_of z = if is_zero z then [] else word z % 256 ∷ (word z / 256 % 256 ∷ [])
 
 -- the bit of an axis stands where the move is not zero
 abbrev pub bit_of : ℤ → ℕ → ℕ
-bit_of z k = cond (is_zero z) 0 k
+bit_of z k = if is_zero z then 0 else k
 
 abbrev pub map_byte : Coords → ℕ
 map_byte m = bit_of m.x 1 + bit_of m.y 2 + bit_of m.z 4

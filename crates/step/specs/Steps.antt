@@ -1,19 +1,15 @@
 -- What a record means: the rows whose record it is.
-use Rattle.std.specs.Prelude.{◌≡◌, ℕ, Bool, true, ◌&&◌, List, [], ◌∷◌}
-use Rattle.sheet.specs.Counted.{counted, in_range}
-use Rattle.sheet.specs.declared.rows.Coords.{Coords}
+use Rattle.std.specs.Prelude.{◌≡◌, ℕ, IsTrue, List, [], ◌∷◌}
+use Rattle.sheet.specs.Counted.{counted, within}
 use Rattle.sheet.specs.declared.rows.Point.{Point}
 use Rattle.step.specs.Record.{record_of}
-
-abbrev pub within : Coords → Bool
-within p = in_range p.x && (in_range p.y && in_range p.z)
 
 -- qs are ps with other ends, all in range
 abbrev pub Ends : List Point → List Point → Type 0
 Ends [] [] = Unit {0}
 Ends [] (q ∷ qs) = ⊥
 Ends (p ∷ ps) [] = ⊥
-Ends (p ∷ ps) (q ∷ qs) = (q.start ≡ p.start) × (within q.end ≡ true) × Ends ps qs
+Ends (p ∷ ps) (q ∷ qs) = (q.start ≡ p.start) × IsTrue (within q.end) × Ends ps qs
 
 -- bs is the record of ps with the ends of qs
 abbrev pub Step : List Point → List ℕ → List Point → Type 0

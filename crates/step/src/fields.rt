@@ -17,7 +17,8 @@ pub(crate) fn read_field(
     at: At,
 ) -> Result<(i16, &[u8]), StepFault>
     requires { 0 < bit }
-    ensures fault { fault_notice notice_of_step result ≡ first_fit (field_checks at (bit_stands map bit) start bytes.now) }
+    ensures fault { let stands = bit_stands map bit in
+        fault_notice notice_of_step result ≡ first_fit (field_checks at stands start bytes.now) }
     ensures end { IfOk result (λ p. p.0 ≡ end_in (bit_stands map bit) start bytes.now) }
     ensures rest { IfOk result (λ p. p.1.now ≡ after_field (bit_stands map bit) bytes.now) }
 {

@@ -11,7 +11,8 @@ use sheet::{Coords, Point};
 
 /// The row with the end that the front of a record gives, and the rest of the record. It is the row of point `number`.
 pub(crate) fn read_row(bytes: &[u8], row: Point, number: u32) -> Result<(Point, &[u8]), StepFault>
-    ensures fault { fault_notice notice_of_step result ≡ first_fit (row_checks number row bytes.now) }
+    ensures fault { fault_notice notice_of_step result
+        ≡ first_fit (row_checks number row bytes.now) }
     ensures row { IfOk result (λ p. p.0 ≡ with_end row bytes.now) }
     ensures rest { IfOk result (λ p. p.1.now ≡ after_row bytes.now) }
 {
@@ -37,7 +38,8 @@ fn read_fields(
     start: Coords,
     point: u32,
 ) -> Result<(Coords, &[u8]), StepFault>
-    ensures fault { fault_notice notice_of_step result ≡ first_fit (fields_checks map point start bytes.now) }
+    ensures fault { fault_notice notice_of_step result
+        ≡ first_fit (fields_checks map point start bytes.now) }
     ensures end { IfOk result (λ p. p.0 ≡ ends_of map start bytes.now) }
     ensures rest { IfOk result (λ p. p.1.now ≡ after_fields map bytes.now) }
 {

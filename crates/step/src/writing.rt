@@ -1,5 +1,5 @@
 // Writes the record of a table into the caller's bytes.
-ghost use Rattle.std.specs.Prelude.{◌≡◌, ◌+◌, ◌++◌, ◌≤◌, true, length, take, ◌-ℤ◌, is_ok, IfOk, if◌then◌else◌};
+ghost use Rattle.std.specs.Prelude.{◌≡◌, ◌+◌, ◌++◌, ◌≤◌, length, take, ◌-ℤ◌, is_ok, IfOk, IsTrue, if◌then◌else◌};
 ghost use Rattle.arrayvec.specs.ArrayVec.{array_vec_len};
 ghost use Rattle.sheet.specs.Checks.{first_fit, fault_notice};
 ghost use Rattle.sheet.specs.Counted.{in_range};
@@ -33,10 +33,14 @@ fn full_record() -> usize
 ///
 /// What is written is a record of these rows, by which their ends come back as they count (`back`).
 pub fn write(draft: &Draft, points: &[Point], out: &mut [u8]) -> Result<usize, WriterFault>
-    ensures fault { fault_notice notice_of_writer result ≡ first_fit (write_checks draft.now.points points.now (length out.old)) }
-    ensures len { IfOk result (λ n. n ≡ length (record_of (take draft.now.points points.now))) }
-    ensures out { out.new ≡ (if is_ok result then onto_front (record_of (take draft.now.points points.now)) out.old else out.old) }
-    ensures back { IfOk result (λ n. Step (take draft.now.points points.now) (take n out.new) (as_counted (take draft.now.points points.now))) }
+    ensures fault { fault_notice notice_of_writer result
+        ≡ first_fit (write_checks draft.now.points points.now (length out.old)) }
+    ensures len { let rows = take draft.now.points points.now in
+        IfOk result (λ n. n ≡ length (record_of rows)) }
+    ensures out { let rows = take draft.now.points points.now in
+        out.new ≡ (if is_ok result then onto_front (record_of rows) out.old else out.old) }
+    ensures back { let rows = take draft.now.points points.now in
+        IfOk result (λ n. Step rows (take n out.new) (as_counted rows)) }
 {
     let count = draft.points() as usize;
     if points.len() < count {
@@ -137,8 +141,8 @@ fn move_of(start: i16, end: i16) -> i16
 
 /// How far it is from one coordinate to another.
 fn apart(start: i16, end: i16) -> i16
-    requires start { in_range start ≡ true }
-    requires end { in_range end ≡ true }
+    requires start { IsTrue (in_range start) }
+    requires end { IsTrue (in_range end) }
     ensures { result ≡ end -ℤ start }
 {
     end - start
