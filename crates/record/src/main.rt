@@ -1,27 +1,12 @@
 // record START.obj END.obj STEP.bin: makes the record of the step between two frames of one sheet.
 #![tactic(auto)]
 
-ghost use Rattle.std.specs.Prelude.{◌≡◌, not, take, is_some, is_ok, IfOk};
-ghost use Rattle.step.specs.Frames.{difference_of};
-ghost use Rattle.step.specs.Record.{record_of};
-ghost use Rattle.record.specs.Texts.{FromText};
-
 use anyhow::anyhow;
 use files::load;
-use sheet::{Draft, FACE_LIMIT, Face, POINT_LIMIT, Point, TEXT_LIMIT, read_sheet};
+use frames::{Frame, deciding_len, read_frame, recording_of};
 use std::path::Path;
 use std::process::ExitCode;
 use std::{env, fs};
-use step::{Difference, compare_frames, end_at, lay, moving, record_limit, write};
-
-/// A frame: a draft and its tables, which were read from a text.
-#[derive(Drop)]
-struct Frame {
-    draft: Draft,
-    points: Vec<Point>,
-    faces: Vec<Face>,
-    ghost from_text: { ∥ FromText draft points.items faces.items ∥₁ },
-}
 
 /// What stops the run is told where it is found, so that only the status is left to say.
 fn main(rt: HostRuntime) -> ExitCode {
@@ -42,87 +27,33 @@ fn run(rt: &HostRuntime) -> anyhow::Result<()> {
         eprintln!(rt; "usage: record START.obj END.obj STEP.bin")?;
         return Err(anyhow!("not three files"));
     };
-    let start = read_frame(rt, Path::new(start.as_str()))?;
-    let end = read_frame(rt, Path::new(end.as_str()))?;
-    same_sheet(rt, &start, &end)?;
+    let start = load_frame(rt, Path::new(start.as_str()))?;
+    let end = load_frame(rt, Path::new(end.as_str()))?;
     record(rt, start, &end, Path::new(step.as_str()))
 }
 
-/// Reads a frame. Where it has a fault, its name is told on standard error beside the fault's line.
-fn read_frame(rt: &HostRuntime, path: Path<'_>) -> anyhow::Result<Frame> {
-    let heap = rt.alloc();
-    let text = load(rt, path, TEXT_LIMIT + 1)?;
-    let mut points = vec![in heap; Point::default(); POINT_LIMIT as usize]?;
-    let mut faces = vec![in heap; Face::default(); FACE_LIMIT as usize]?;
-    match read_sheet(text.as_slice(), points.as_mut_slice(), faces.as_mut_slice()) {
-        Ok(draft) => Ok(Frame {
-            draft,
-            points,
-            faces,
-        }),
+/// Loads a frame. Where it has a fault, its name is told on standard error beside the fault's line.
+fn load_frame(rt: &HostRuntime, path: Path<'_>) -> anyhow::Result<Frame> {
+    let text = load(rt, path, deciding_len())?;
+    match read_frame(rt.alloc(), text.as_slice())? {
+        Ok(frame) => Ok(frame),
         Err(fault) => {
-            println!(rt; "{}", fault.notice())?;
+            println!(rt; "{}", fault.notice().line())?;
             eprintln!(rt; "{}: it has a fault", path.display())?;
             Err(anyhow!("a frame has a fault"))
         }
     }
 }
 
-/// Refuses two frames that are not of one sheet.
-fn same_sheet(rt: &HostRuntime, start: &Frame, end: &Frame) -> anyhow::Result<()>
-    ensures { is_ok result ≡ not (is_some (difference_of start.now.draft start.now.faces.items end.now.draft end.now.faces.items)) }
-{
-    let differ = compare_frames(
-        &start.draft,
-        start.faces.as_slice(),
-        &end.draft,
-        end.faces.as_slice(),
-    );
-    match differ {
-        None => return Ok(()),
-        Some(Difference::Points(a, b)) => println!(rt; "the frames have {a} and {b} points")?,
-        Some(Difference::Faces(a, b)) => println!(rt; "the frames have {a} and {b} faces")?,
-        Some(Difference::Face(i)) => println!(rt; "the frames differ in face {i}")?,
-    }
-    Err(anyhow!("the frames differ"))
-}
-
-/// Writes the record of the step, reads it back, and stores it.
+/// Stores the record of the step between two frames, unless they differ, and tells what came of them.
 fn record(rt: &HostRuntime, start: Frame, end: &Frame, path: Path<'_>) -> anyhow::Result<()> {
-    let Frame {
-        draft,
-        mut points,
-        faces: _,
-    } = start;
-    end_at(points.as_mut_slice(), end.points.as_slice());
-    let bytes = written(rt, &draft, points.as_slice())?;
-    if let Err(fault) = lay(&draft, bytes.as_slice(), points.as_mut_slice()) {
-        println!(rt; "{}", fault.notice())?;
-        return Err(anyhow!("the record does not read back"));
+    let recording = recording_of(rt.alloc(), start, end)?;
+    if let Some(bytes) = &recording.bytes {
+        fs::write(rt, path, bytes.as_slice())?;
     }
-    fs::write(rt, path, bytes.as_slice())?;
-    let moved = moving(&draft, points.as_slice());
-    println!(rt;
-        "step {} points, {moved} moved, {} bytes",
-        draft.points(),
-        bytes.len()
-    )?;
+    println!(rt; "{}", recording.line)?;
+    if recording.bytes.is_none() {
+        return Err(anyhow!("the frames differ"));
+    }
     Ok(())
-}
-
-/// The record of the draft's points.
-fn written(rt: &HostRuntime, draft: &Draft, points: &[Point]) -> anyhow::Result<Vec<u8>>
-    ensures { IfOk result (λ bytes. bytes.items ≡ record_of (take draft.now.points points.now)) }
-{
-    let mut bytes = vec![in rt.alloc(); 0u8; record_limit()]?;
-    match write(draft, points, bytes.as_mut_slice()) {
-        Ok(len) => {
-            bytes.truncate(len);
-            Ok(bytes)
-        }
-        Err(fault) => {
-            println!(rt; "{}", fault.notice())?;
-            Err(anyhow!("the record was not written"))
-        }
-    }
 }
