@@ -16,7 +16,7 @@ use Rattle.inspection.specs.declared.classes.Class.{Class}
 use Rattle.inspection.specs.declared.classes.Class.TheVariants.{Kept, Struck, Shared, Repeated}
 use Rattle.inspection.specs.declared.classes.Tally.{Tally}
 use Rattle.inspection.specs.declared.kinds.ListKind.TheVariants.{Vf, Ee}
-use Rattle.inspection.specs.Tallies.{no_tests, total, with_one_more, tally_in}
+use Rattle.inspection.specs.Tallies.{no_tests, total, with_one_more, sum_of, tally_in}
 use Rattle.inspection.specs.Offerings.{Offering, Faces}
 use Rattle.inspection.specs.Sheets.{Sheet, sheet_in, moving_of, nowhere, point_at, face_at}
 use Rattle.inspection.specs.Tests.{Naming, vf_naming, ee_naming}
@@ -41,15 +41,15 @@ pub record KindSoFar {E : Type 0} (n : Naming E) (times : ℕ → ℕ) (set : Sh
   pub classes : total t ≡ times (length h)
   pub counts : CountsOfKind n set sheet h es t
 
-one_kept : {E : Type 0} (c : Class) (es : List E) (e : E) (t : Tally) → t.kept ≡ length es → (with_one_more c t).kept ≡ length (entries_with c es e)
-one_kept Kept es e t h = let l = length-append es (e ∷ []) in omega arith
-one_kept Struck es e t h = h
-one_kept Shared es e t h = h
-one_kept Repeated es e t h = h
+one_kept : {E : Type 0} (c : Class) (es : List E) (e : E) (t : Tally) → (with_one_more c t).kept + length es ≡ t.kept + length (entries_with c es e)
+one_kept Kept es e t = omega (arith, length-append es (e ∷ []))
+one_kept Struck es e t = refl
+one_kept Shared es e t = refl
+one_kept Repeated es e t = refl
 
-all_kept : {E : Type 0} (j : Rules E) (es ts : List E) (t : Tally) → t.kept ≡ length es → (tally_after j es ts t).kept ≡ length (entries_after j es ts)
-all_kept j es [] t h = h
-all_kept j es (x ∷ ts) t h = let c = class_of j es x in all_kept j (entries_with c es x) ts (with_one_more c t) (one_kept c es x t h)
+all_kept : {E : Type 0} (j : Rules E) (es ts : List E) (t : Tally) → (tally_after j es ts t).kept + length es ≡ t.kept + length (entries_after j es ts)
+all_kept j es [] t = refl
+all_kept j es (x ∷ ts) t = let c = class_of j es x in omega (arith, all_kept j (entries_with c es x) ts (with_one_more c t), one_kept c es x t)
 
 -- of the class that the rules give
 module _ (a b c : Bool) (t : Tally) where
@@ -106,7 +106,7 @@ module _ {E : Type 0} (n : Naming E) (times : ℕ → ℕ) (set : Shape → Bool
   no-offer z = record { gathered = nothing n set sheet; classes = sym z; counts = record { shared = refl; struck = refl; passed = refl; kept = refl } }
 
   one-more : NamingLaws n sheet → (h : List Accepted) (o : Accepted) (es : List E) (t : Tally) → times (suc (length h)) ≡ times (length h) + length (n.tests sheet o.what) → KindSoFar n times set sheet h es t
-      → KindSoFar n times set sheet (h ++ (o ∷ [])) (entries_by n set o.depth sheet o.what es) (tally_by n set o.depth sheet o.what es t)
+      → KindSoFar n times set sheet (h ++ (o ∷ [])) (entries_by n set o.depth sheet o.what es) (sum_of t (tally_by n set o.depth sheet o.what es))
   one-more named h o es t m k =
       let j : Rules E = rules_at n set o.depth sheet in
       let ts : List E = n.tests sheet o.what in
@@ -115,16 +115,12 @@ module _ {E : Type 0} (n : Naming E) (times : ℕ → ℕ) (set : Shape → Bool
             subst (λ (x : List Accepted). Upto n set sheet x (length (h ++ (o ∷ []))) 0 (entries_after j es ts)) (sym (append_assoc h (o ∷ []) rest))
             (subst (λ (i : ℕ). Upto n set sheet (h ++ (o ∷ rest)) i 0 (entries_after j es ts)) (sym (longer h o))
             (offer n set sheet (h ++ (o ∷ rest)) named (length h) o (behind h (o ∷ rest) 0 (length h) o (omega arith) refl) es (k.gathered (o ∷ rest))));
-        classes = total-after j es ts t ∙ ap (λ (x : ℕ). x + length ts) k.classes ∙ sym m ∙ ap times (sym (longer h o));
+        classes = omega (arith, total-after j es ts no_tests, k.classes, m, ap times (longer h o));
         counts = record {
-          shared = all_shared j es ts t ∙ ap (λ (x : ℕ). x + count_by j.shared ts) k.counts.shared ∙ sym (more-of n sheet h o (λ o e. n.shared sheet e));
-          struck =
-              all_struck j es ts t ∙ ap (λ (x : ℕ). x + count_by (λ e. not (j.shared e) && j.struck e) ts) k.counts.struck
-              ∙ sym (more-of n sheet h o (λ o e. not (n.shared sheet e) && struck_at set o.depth (n.shape sheet e)));
-          passed =
-              all_passed j es ts t ∙ ap (λ (x : ℕ). x + count_by (λ e. not (j.shared e) && not (j.struck e)) ts) k.counts.passed
-              ∙ sym (more-of n sheet h o (λ o e. not (n.shared sheet e) && not (struck_at set o.depth (n.shape sheet e))));
-          kept = all_kept j es ts t k.counts.kept;
+          shared = omega (arith, all_shared j es ts no_tests, k.counts.shared, more-of n sheet h o (λ o e. n.shared sheet e));
+          struck = omega (arith, all_struck j es ts no_tests, k.counts.struck, more-of n sheet h o (λ o e. not (n.shared sheet e) && struck_at set o.depth (n.shape sheet e)));
+          passed = omega (arith, all_passed j es ts no_tests, k.counts.passed, more-of n sheet h o (λ o e. not (n.shared sheet e) && not (struck_at set o.depth (n.shape sheet e))));
+          kept = omega (arith, all_kept j es ts no_tests, k.counts.kept);
         };
       }
 

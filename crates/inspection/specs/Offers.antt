@@ -1,5 +1,5 @@
 -- An offer: its checks, in their order, and what it leaves where none fits.
-use Rattle.std.specs.Prelude.{◌≡◌, ℕ, ◌+◌, ◌-◌, Bool, not, if◌then◌else◌, ◌&&◌, ◌||◌, List, [], ◌∷◌, ◌++◌, length, Result, is_ok, ◌==◌, nat_le, nat_lt}
+use Rattle.std.specs.Prelude.{◌≡◌, ℕ, ◌-◌, Bool, not, if◌then◌else◌, ◌&&◌, ◌||◌, List, [], ◌∷◌, ◌++◌, length, Result, is_ok, ◌==◌, nat_le, nat_lt}
 use Rattle.sheet.specs.Checks.{Check, first_fit, fault_notice}
 use Rattle.sheet.specs.declared.notices.Layer.TheVariants.{Offer}
 use Rattle.sheet.specs.declared.rows.Point.{Point}
@@ -8,15 +8,14 @@ use Rattle.sheet.specs.declared.drafts.Draft.{Draft}
 use Rattle.motion.specs.declared.shapes.Shape.{Shape}
 use Rattle.inspection.specs.declared.classes.Tally.{Tally}
 use Rattle.inspection.specs.declared.faults.OfferFault.{OfferFault}
-use Rattle.inspection.specs.declared.kinds.ListKind.TheVariants.{Vf, Ee}
 use Rattle.inspection.specs.Faults.{refuses, notice_of_offer}
-use Rattle.inspection.specs.Tallies.{tally_in}
+use Rattle.inspection.specs.Tallies.{no_tests, total}
 use Rattle.inspection.specs.Offerings.{Offering, Faces}
 use Rattle.inspection.specs.Sheets.{Sheet, sheet_in, face_at}
 use Rattle.inspection.specs.Tests.{Naming, vf_naming, ee_naming}
 use Rattle.inspection.specs.Lists.{Contents, with_entries}
 use Rattle.inspection.specs.Classes.{rules_at, entries_after, tally_after}
-use Rattle.inspection.specs.States.{State}
+use Rattle.inspection.specs.States.{State, with_counts}
 
 -- a table is shorter than its count
 abbrev pub lacks_rows : Draft → List Point → List Face → Bool
@@ -31,12 +30,18 @@ offer_limit = 1000000
 
 -- ---- the tests of one kind of what is offered, judged by a set at depth d
 module _ {E : Type 0} (n : Naming E) (set : Shape → Bool) (d : ℕ) (s : Sheet) (o : Offering) where
-  -- the entries and the tally after them
+  -- the entries after them, and how many there are of each class
   abbrev pub entries_by : List E → List E
   entries_by es = entries_after (rules_at n set d s) es (n.tests s o)
 
-  abbrev pub tally_by : List E → Tally → Tally
-  tally_by es t = tally_after (rules_at n set d s) es (n.tests s o) t
+  abbrev pub tally_by : List E → Tally
+  tally_by es = tally_after (rules_at n set d s) es (n.tests s o) no_tests
+
+  -- of these entries: the new ones that go behind them, and the tally of all
+  pub record Outcome (es new : List E) (t : Tally) : Type 0 where
+    pub entries : es ++ new ≡ entries_by es
+    pub tally : t ≡ tally_by es
+    pub total : total t ≡ length (n.tests s o)
 
   -- fewer free places than new entries
   abbrev pub lacks_room : Contents E → Bool
@@ -67,15 +72,10 @@ offer_checks set ps fs o st =
 abbrev pub state_after : (Shape → Bool) → Sheet → Offering → State → State
 state_after set s o st =
     let d = st.core.depth in
+    let vf_tally = tally_by vf_naming set d s o st.vf.entries in
+    let ee_tally = tally_by ee_naming set d s o st.ee.entries in
     record {
-      core = record {
-        draft = st.core.draft;
-        depth = d;
-        tallies =
-            tally_by vf_naming set d s o st.vf.entries (tally_in Vf st.core.tallies)
-            ∷ (tally_by ee_naming set d s o st.ee.entries (tally_in Ee st.core.tallies) ∷ []);
-        accepted = st.core.accepted + 1;
-      };
+      core = with_counts vf_tally ee_tally st.core;
       vf = with_entries (entries_by vf_naming set d s o st.vf.entries) st.vf;
       ee = with_entries (entries_by ee_naming set d s o st.ee.entries) st.ee;
     }

@@ -5,6 +5,7 @@ ghost use Rattle.inspection.specs.Classes.{entries_with};
 
 use crate::classes::{Class, Tally};
 use crate::entries::is_among;
+use crate::lists::List;
 use crate::sheets::Rows;
 use crate::tests::TestName;
 use arrayvec::ArrayVec;
@@ -24,6 +25,7 @@ impl<'a, F: Filter> Judge<'a, F> {
     ghost use Rattle.inspection.specs.Tallies.{no_tests, total};
     ghost use Rattle.inspection.specs.Classes.{class_of, entries_after, tally_after};
     ghost use Rattle.inspection.specs.Judges.{rules_of};
+    ghost use Rattle.inspection.specs.Lists.{entries};
 
     /// Whether the filter strikes a test of the sheet at the depth.
     fn strikes<E: TestName>(&self, e: E) -> bool
@@ -58,18 +60,20 @@ impl<'a, F: Filter> Judge<'a, F> {
     pub(crate) fn class_all<E: TestName + Default, const N: usize>(
         &self,
         tests: &[E],
-        old: &[E],
+        list: &List<'_, E>,
     ) -> (ArrayVec<E, N>, Tally)
         requires room { length tests.now ≤ N }
         requires few { length tests.now ≤ 9 }
-        ensures entries { let rules = rules_of F.struck E.naming E.same self.now in
-            old.now ++ result.0.items ≡ entries_after rules old.now tests.now }
-        ensures tally { let rules = rules_of F.struck E.naming E.same self.now in
-            result.1 ≡ tally_after rules old.now tests.now no_tests }
+        ensures entries { entries list.now ++ result.0.items
+            ≡ entries_after (rules_of F.struck E.naming E.same self.now) (entries list.now) tests.now }
+        ensures tally { result.1
+            ≡ tally_after (rules_of F.struck E.naming E.same self.now) (entries list.now) tests.now
+            no_tests }
         ensures total { total result.1 ≡ length tests.now }
     {
         let mut new = ArrayVec::new();
         let mut tally = Tally::none();
+        let old = list.entries();
         for e in tests {
             let class = self.class_of(*e, old, new.as_slice());
             tally.count(class);

@@ -32,7 +32,7 @@ impl<'a, E: Entry> List<'a, E> {
     pub fn len(&self) -> usize
         ensures { result ≡ length (entries self.now) }
     {
-        self.len
+        self.entries().len()
     }
 
     /// Whether the list is empty.

@@ -1,14 +1,19 @@
 // The fifteen tests of two faces.
 ghost use Rattle.std.specs.Prelude.{◌≡◌};
-ghost use Rattle.inspection.specs.Pairs.{vf_tests, edges, ee_tests};
+ghost use Rattle.inspection.specs.Pairs.{edges};
+ghost use Rattle.inspection.specs.Offerings.{Faces};
+ghost use Rattle.inspection.specs.Sheets.{sheet_of_rows};
+ghost use Rattle.inspection.specs.Tests.{vf_naming, ee_naming};
 
 use crate::names::{Edge, EeName, VfName};
+use crate::sheets::Rows;
 use sheet::Face;
 
-/// The corners of each face against the other: `m` and `n` are the numbers of `f` and `g`.
-pub(crate) fn vf_tests(m: u16, f: Face, n: u16, g: Face) -> [VfName; 6]
-    ensures { result ≡ vf_tests m f n g }
+/// The corners of each of two faces against the other; `m` and `n` are the numbers of the faces.
+pub(crate) fn vf_tests(rows: Rows<'_>, m: u16, n: u16) -> [VfName; 6]
+    ensures { result ≡ vf_naming.tests (sheet_of_rows rows.entry) (Faces m n) }
 {
+    let (f, g) = (rows.face(m), rows.face(n));
     [
         VfName {
             point: f.a,
@@ -37,12 +42,12 @@ pub(crate) fn vf_tests(m: u16, f: Face, n: u16, g: Face) -> [VfName; 6]
     ]
 }
 
-/// The edges of the first against those of the second.
-pub(crate) fn ee_tests(f: Face, g: Face) -> [EeName; 9]
-    ensures { result ≡ ee_tests f g }
+/// The edges of the first of two faces against those of the second.
+pub(crate) fn ee_tests(rows: Rows<'_>, m: u16, n: u16) -> [EeName; 9]
+    ensures { result ≡ ee_naming.tests (sheet_of_rows rows.entry) (Faces m n) }
 {
-    let [a, b, c] = edges(f);
-    let [p, q, r] = edges(g);
+    let [a, b, c] = edges(rows.face(m));
+    let [p, q, r] = edges(rows.face(n));
     [
         a.against(p),
         a.against(q),

@@ -1,5 +1,6 @@
 // A sheet as it lies in the first rows of the caller's tables.
 ghost use Rattle.std.specs.Prelude.{◌≡◌, length, is_none, IfSome};
+ghost use Rattle.sheet.specs.Counted.{coordinate_of};
 ghost use Rattle.motion.specs.Laws.{InReach};
 ghost use Rattle.inspection.specs.Sheets.{place_of, moving_of, sheet_of, sheet_in, sheet_of_rows, point_at, face_at};
 ghost use Rattle.inspection.specs.Offers.{lacks_rows};
@@ -91,8 +92,14 @@ fn place(coords: Coords) -> V3
     ensures { result ≡ place_of coords }
 {
     V3 {
-        x: coordinate_of(coords.x) as i64,
-        y: coordinate_of(coords.y) as i64,
-        z: coordinate_of(coords.z) as i64,
+        x: coordinate(coords.x),
+        y: coordinate(coords.y),
+        z: coordinate(coords.z),
     }
+}
+
+fn coordinate(value: i16) -> i64
+    ensures { result ≡ coordinate_of value }
+{
+    i64::from(coordinate_of(value))
 }

@@ -18,22 +18,16 @@ pub struct Closed<F> {
 }
 
 impl<F: Filter> Inspection<F> {
+    /// Closes it: the counts stay to be told, and the draft can be opened again.
     pub fn close(self) -> Closed<F>
         ensures draft { result.draft ≡ self.draft }
         ensures filter { result.filter ≡ self.filter }
         ensures tallies { result.tallies ≡ self.tallies }
     {
-        let Inspection {
-            draft,
-            filter,
-            depth: _depth,
-            tallies,
-            accepted: _accepted,
-        } = self;
         Closed {
-            draft,
-            filter,
-            tallies,
+            draft: self.draft,
+            filter: self.filter,
+            tallies: self.tallies,
         }
     }
 }
@@ -55,11 +49,6 @@ impl<F> Closed<F> {
         ensures draft { result.0 ≡ self.draft }
         ensures filter { result.1 ≡ self.filter }
     {
-        let Closed {
-            draft,
-            filter,
-            tallies: _tallies,
-        } = self;
-        (draft, filter)
+        (self.draft, self.filter)
     }
 }

@@ -1,9 +1,14 @@
 // Offering two faces.
-ghost use Rattle.std.specs.Prelude.{◌≡◌, ◌<◌};
+ghost use Rattle.std.specs.Prelude.{◌≡◌, ◌<◌, ◌||◌, nat_lt, length, IfOk};
+ghost use Rattle.sheet.specs.Checks.{first_fit, fault_notice};
+ghost use Rattle.inspection.specs.Faults.{notice_of_offer};
 ghost use Rattle.inspection.specs.Tallies.{total};
+ghost use Rattle.inspection.specs.Sheets.{sheet_in};
+ghost use Rattle.inspection.specs.Lists.{contents_of, entries};
+ghost use Rattle.inspection.specs.Tests.{vf_naming, ee_naming};
 ghost use Rattle.inspection.specs.States.{core_of, state_of, with_counts};
 ghost use Rattle.inspection.specs.Offerings.{Faces};
-ghost use Rattle.inspection.specs.Offers.{OfferStep};
+ghost use Rattle.inspection.specs.Offers.{checks_but_room, Outcome, OfferStep};
 
 use super::Inspection;
 use crate::classes::Tally;
@@ -14,9 +19,29 @@ use crate::lists::List;
 use crate::names::{EeName, VfName};
 use crate::offers::check_offer;
 use crate::pairs::{ee_tests, vf_tests};
-use crate::sheets::Rows;
+use arrayvec::ArrayVec;
 use filters::Filter;
 use sheet::{Face, Point};
+
+/// What a pair's tests come to: the entries that they add to each list, and their tallies.
+#[derive(Drop)]
+struct PairOutcome {
+    vf: ArrayVec<VfName, 6>,
+    vf_tally: Tally,
+    ee: ArrayVec<EeName, 9>,
+    ee_tally: Tally,
+}
+
+impl PairOutcome {
+    /// Whether a list has fewer free places than new entries.
+    fn lacks_room(&self, vf: &List<'_, VfName>, ee: &List<'_, EeName>) -> bool
+        ensures { result
+            ≡ (nat_lt (length (contents_of vf.now).rest) (length self.now.vf.items)
+            || nat_lt (length (contents_of ee.now).rest) (length self.now.ee.items)) }
+    {
+        vf.free() < self.vf.len() || ee.free() < self.ee.len()
+    }
+}
 
 impl<F: Filter> Inspection<F> {
     /// Offers two faces, by their numbers: each of their fifteen tests is classed and counted, and
@@ -35,24 +60,53 @@ impl<F: Filter> Inspection<F> {
             (state_of self.new vf.new ee.new) }
         ensures filter { self.new.filter ≡ self.old.filter }
     {
+        let new = self.class_pair(points, faces, vf, ee, first, second)?;
+        if new.lacks_room(vf, ee) {
+            return Err(OfferFault::ListFull);
+        }
+        vf.extend(new.vf.as_slice());
+        ee.extend(new.ee.as_slice());
+        self.count(new.vf_tally, new.ee_tally);
+        Ok(())
+    }
+
+    /// Makes the checks of an offer, but for the room on the lists, and classes the pair's tests.
+    fn class_pair(
+        &self,
+        points: &[Point],
+        faces: &[Face],
+        vf: &List<'_, VfName>,
+        ee: &List<'_, EeName>,
+        first: u16,
+        second: u16,
+    ) -> Result<PairOutcome, OfferFault>
+        ensures fault { fault_notice notice_of_offer result
+            ≡ first_fit (checks_but_room self.now.draft points.now faces.now (Faces first second)
+            self.now.accepted) }
+        ensures few { IfOk result (λ _. self.now.accepted < 1000000) }
+        ensures vf { IfOk result (λ c.
+            Outcome vf_naming (F.Filter.struck self.now.filter) self.now.depth
+            (sheet_in self.now.draft points.now faces.now) (Faces first second)
+            (entries vf.now) c.vf.items c.vf_tally) }
+        ensures ee { IfOk result (λ c.
+            Outcome ee_naming (F.Filter.struck self.now.filter) self.now.depth
+            (sheet_in self.now.draft points.now faces.now) (Faces first second)
+            (entries ee.now) c.ee.items c.ee_tally) }
+    {
         let rows = check_offer(&self.draft, points, faces, first, second, self.accepted)?;
-        let (f, g) = (rows.face(first), rows.face(second));
         let judge = Judge {
             rows,
             filter: &self.filter,
             depth: self.depth,
         };
-        let vf_tests = vf_tests(first, f, second, g);
-        let ee_tests = ee_tests(f, g);
-        let (vf_new, vf_tally) = judge.class_all::<VfName, 6>(&vf_tests, vf.entries());
-        let (ee_new, ee_tally) = judge.class_all::<EeName, 9>(&ee_tests, ee.entries());
-        if vf.free() < vf_new.len() || ee.free() < ee_new.len() {
-            return Err(OfferFault::ListFull);
-        }
-        vf.extend(vf_new.as_slice());
-        ee.extend(ee_new.as_slice());
-        self.count(vf_tally, ee_tally);
-        Ok(())
+        let (vf, vf_tally) = judge.class_all(&vf_tests(rows, first, second), vf);
+        let (ee, ee_tally) = judge.class_all(&ee_tests(rows, first, second), ee);
+        Ok(PairOutcome {
+            vf,
+            vf_tally,
+            ee,
+            ee_tally,
+        })
     }
 
     /// Counts the tests of an accepted offer.
