@@ -1,16 +1,9 @@
 -- Going through the tests of an offer: what is left decides what comes out.
 use Rattle.std.proofs.Common.{◌≡◌, ℕ, ◌+◌, List, [], ◌∷◌, ◌++◌, length, drop, arith}
-use Rattle.inspection.specs.declared.classes.Class.{Class}
-use Rattle.inspection.specs.declared.classes.Class.TheVariants.{Kept, Struck, Shared, Repeated}
 use Rattle.inspection.specs.declared.classes.Tally.{Tally}
 use Rattle.inspection.specs.Tallies.{no_tests, total, with_one_more}
 use Rattle.inspection.specs.Classes.{Rules, class_of, entries_with, entries_after, tally_after}
 
-one_more : (c : Class) (t : Tally) → total (with_one_more c t) ≡ total t + 1
-one_more Kept t = omega arith
-one_more Struck t = omega arith
-one_more Shared t = omega arith
-one_more Repeated t = omega arith
 
 module _ {E : Type 0} (j : Rules E) (old tests : List E) where
   pub record Going (i : ℕ) (new : List E) (tally : Tally) : Type 0 where
@@ -22,4 +15,4 @@ pub total-after : {E : Type 0} (j : Rules E) (es tests : List E) (t : Tally) →
 total-after j es [] t = omega arith
 total-after j es (e ∷ rest) t =
     let k = class_of j es e in
-    omega (arith, total-after j (entries_with k es e) rest (with_one_more k t), one_more k t)
+    grind (arith, total-after j (entries_with k es e) rest (with_one_more k t))

@@ -12,15 +12,13 @@ use Rattle.sheet.specs.declared.rows.Face.{Face}
 use Rattle.motion.specs.declared.shapes.Shape.{Shape}
 use Rattle.motion.specs.Laws.{InReach}
 use Rattle.inspection.specs.declared.faults.OpeningFault.{OpeningFault}
-use Rattle.inspection.specs.declared.classes.Class.{Class}
-use Rattle.inspection.specs.declared.classes.Class.TheVariants.{Kept, Struck, Shared, Repeated}
 use Rattle.inspection.specs.declared.classes.Tally.{Tally}
 use Rattle.inspection.specs.declared.kinds.ListKind.TheVariants.{Vf, Ee}
 use Rattle.inspection.specs.Tallies.{no_tests, total, with_one_more, sum_of, tally_in}
 use Rattle.inspection.specs.Offerings.{Offering, Faces}
 use Rattle.inspection.specs.Sheets.{Sheet, sheet_in, moving_of, nowhere, point_at, face_at}
 use Rattle.inspection.specs.Tests.{Naming, vf_naming, ee_naming}
-use Rattle.inspection.specs.Lists.{At, has}
+use Rattle.inspection.specs.Lists.{At}
 use Rattle.inspection.specs.Classes.{Rules, rules_at, class_of, entries_with, entries_after, tally_after}
 use Rattle.inspection.specs.States.{Core, State}
 use Rattle.inspection.specs.Offers.{lacks_rows, entries_by, tally_by, state_after, offer_checks, corners_below}
@@ -41,57 +39,28 @@ pub record KindSoFar {E : Type 0} (n : Naming E) (times : ℕ → ℕ) (set : Sh
   pub classes : total t ≡ times (length h)
   pub counts : CountsOfKind n set sheet h es t
 
-one_kept : {E : Type 0} (c : Class) (es : List E) (e : E) (t : Tally) → (with_one_more c t).kept + length es ≡ t.kept + length (entries_with c es e)
-one_kept Kept es e t = omega (arith, length-append es (e ∷ []))
-one_kept Struck es e t = refl
-one_kept Shared es e t = refl
-one_kept Repeated es e t = refl
-
 all_kept : {E : Type 0} (j : Rules E) (es ts : List E) (t : Tally) → (tally_after j es ts t).kept + length es ≡ t.kept + length (entries_after j es ts)
 all_kept j es [] t = refl
-all_kept j es (x ∷ ts) t = let c = class_of j es x in omega (arith, all_kept j (entries_with c es x) ts (with_one_more c t), one_kept c es x t)
-
--- of the class that the rules give
-module _ (a b c : Bool) (t : Tally) where
-  abbrev by_rules : Class
-  by_rules = cond a Shared (cond b Struck (cond c Repeated Kept))
-
-one_shared : (a b c : Bool) (t : Tally) → (with_one_more (by_rules a b c t) t).shared ≡ t.shared + cond a 1 0
-one_shared true b c t = refl
-one_shared false true c t = omega arith
-one_shared false false true t = omega arith
-one_shared false false false t = omega arith
-
-one_passed : (a b c : Bool) (t : Tally) → (with_one_more (by_rules a b c t) t).kept + (with_one_more (by_rules a b c t) t).repeated ≡ t.kept + t.repeated + cond (not a && not b) 1 0
-one_passed true b c t = omega arith
-one_passed false true c t = omega arith
-one_passed false false true t = omega arith
-one_passed false false false t = omega arith
-
-one_struck : (a b c : Bool) (t : Tally) → (with_one_more (by_rules a b c t) t).struck ≡ t.struck + cond (not a && b) 1 0
-one_struck true b c t = omega arith
-one_struck false true c t = refl
-one_struck false false true t = omega arith
-one_struck false false false t = omega arith
+all_kept j es (x ∷ ts) t = let c = class_of j es x in grind (arith, all_kept j (entries_with c es x) ts (with_one_more c t), length-append es (x ∷ []))
 
 module _ {E : Type 0} (j : Rules E) where
   all_shared : (es ts : List E) (t : Tally) → (tally_after j es ts t).shared ≡ t.shared + count_by j.shared ts
   all_shared es [] t = omega arith
   all_shared es (x ∷ ts) t =
       let c = class_of j es x in
-      omega (arith, all_shared (entries_with c es x) ts (with_one_more c t), one_shared (j.shared x) (j.struck x) (has j.same x es) t, sum_by-cons (λ e. cond (j.shared e) 1 0) x ts)
+      grind (arith, all_shared (entries_with c es x) ts (with_one_more c t), sum_by-cons (λ e. cond (j.shared e) 1 0) x ts)
 
   all_struck : (es ts : List E) (t : Tally) → (tally_after j es ts t).struck ≡ t.struck + count_by (λ e. not (j.shared e) && j.struck e) ts
   all_struck es [] t = omega arith
   all_struck es (x ∷ ts) t =
       let c = class_of j es x in
-      omega (arith, all_struck (entries_with c es x) ts (with_one_more c t), one_struck (j.shared x) (j.struck x) (has j.same x es) t, sum_by-cons (λ e. cond (not (j.shared e) && j.struck e) 1 0) x ts)
+      grind (arith, all_struck (entries_with c es x) ts (with_one_more c t), sum_by-cons (λ e. cond (not (j.shared e) && j.struck e) 1 0) x ts)
 
   all_passed : (es ts : List E) (t : Tally) → (tally_after j es ts t).kept + (tally_after j es ts t).repeated ≡ t.kept + t.repeated + count_by (λ e. not (j.shared e) && not (j.struck e)) ts
   all_passed es [] t = omega arith
   all_passed es (x ∷ ts) t =
       let c = class_of j es x in
-      omega (arith, all_passed (entries_with c es x) ts (with_one_more c t), one_passed (j.shared x) (j.struck x) (has j.same x es) t, sum_by-cons (λ e. cond (not (j.shared e) && not (j.struck e)) 1 0) x ts)
+      grind (arith, all_passed (entries_with c es x) ts (with_one_more c t), sum_by-cons (λ e. cond (not (j.shared e) && not (j.struck e)) 1 0) x ts)
 
 -- with one offer more
 more-of : {E : Type 0} (n : Naming E) (sheet : Sheet) (h : List Accepted) (o : Accepted) (p : Accepted → E → Bool)
