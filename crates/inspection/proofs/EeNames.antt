@@ -1,9 +1,9 @@
 -- The names of tests of an edge against an edge.
-use Rattle.std.proofs.Common.{◌≡◌, ℕ, zero, suc, ◌+◌, Bool, true, false, cond, ◌||◌, ◌==◌, nat_lt, List, [], ◌∷◌, length, sym, refl, ap, ◌∙◌, subst, subst₂, ⊎_elim, arith, eq-eqb, ltb-true, ltb-false}
-use Rattle.std.proofs.lemmas.Bool.{or_left, both_ways}
+use Rattle.std.proofs.Common.{◌≡◌, ℕ, zero, suc, ◌+◌, false, List, [], ◌∷◌, length, sym, refl, ap, ◌∙◌, subst, subst₂, ⊎_elim, arith}
+use Rattle.std.proofs.lemmas.Bool.Decides.{nat_tests}
 use Rattle.inspection.specs.declared.names.EeName.{EeName}
 use Rattle.inspection.specs.declared.names.Edge.{Edge}
-use Rattle.inspection.specs.Names.{ee_shared, ee_name_of, name_in_order}
+use Rattle.inspection.specs.Names.{ee_shared, ee_name_of}
 use Rattle.inspection.specs.Offerings.{Offering, Faces, SameOffering}
 use Rattle.inspection.specs.Sheets.{Sheet, face_at}
 use Rattle.inspection.specs.Pairs.{edges, edge_against, edges_against}
@@ -53,22 +53,7 @@ every_meeting (d ∷ es) fs (suc i) j e f p q =
 
 -- ---- the edge with the lower first number comes first; where both have the same, the test is shared
 swapped : (e f : Edge) → ee_shared (ee_name_of e f) ≡ false → ee_name_of f e ≡ ee_name_of e f
-swapped e f u = go (nat_lt f.first e.first) (nat_lt e.first f.first) refl refl u
-  where
-    tied : e.first ≡ f.first → ee_shared (name_in_order e f) ≡ true
-    tied h =
-        or_left (e.first == f.first || e.first == f.second || e.second == f.first) (e.second == f.second)
-        (or_left (e.first == f.first || e.first == f.second) (e.second == f.first) (or_left (e.first == f.first) (e.first == f.second) (eq-eqb e.first f.first h)))
-
-    go : (a b : Bool) → nat_lt f.first e.first ≡ a → nat_lt e.first f.first ≡ b → ee_shared (cond a (name_in_order f e) (name_in_order e f)) ≡ false
-        → cond b (name_in_order e f) (name_in_order f e) ≡ cond a (name_in_order f e) (name_in_order e f)
-    go true true p q u = let l = ltb-true f.first e.first p in let m = ltb-true e.first f.first q in absurd (omega arith)
-    go true false p q u = refl
-    go false true p q u = refl
-    go false false p q u =
-        let l = ltb-false f.first e.first p in
-        let m = ltb-false e.first f.first q in
-        absurd (both_ways (ee_shared (name_in_order e f)) u (tied (omega arith)))
+swapped e f u = grind (arith, nat_tests)
 
 edges-turned : (es fs : List Edge) (k : ℕ) (x : EeName) → At (edges_against es fs) k x → ee_shared x ≡ false → (l : ℕ) × At (edges_against fs es) l x
 edges-turned es fs k x p u =

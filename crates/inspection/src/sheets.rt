@@ -1,7 +1,7 @@
 // A sheet as it lies in the first rows of the caller's tables.
-ghost use Rattle.std.specs.Prelude.{◌≡◌, length, is_none, IfSome};
+ghost use Rattle.std.specs.Prelude.{◌≡◌, ◌≤◌, length, unsigned_abs, is_none, IfSome};
 ghost use Rattle.sheet.specs.Counted.{coordinate_of};
-ghost use Rattle.motion.specs.Laws.{InReach};
+ghost use Rattle.motion.specs.Laws.{Within, InReach};
 ghost use Rattle.inspection.specs.Sheets.{place_of, moving_of, sheet_of, sheet_in, sheet_of_rows, point_at, face_at};
 ghost use Rattle.inspection.specs.Offers.{lacks_rows};
 
@@ -89,7 +89,8 @@ fn moving(point: Point) -> Moving
 }
 
 fn place(coords: Coords) -> V3
-    ensures { result ≡ place_of coords }
+    ensures value { result ≡ place_of coords }
+    ensures reach { Within 4096 result }
 {
     V3 {
         x: coordinate(coords.x),
@@ -98,8 +99,10 @@ fn place(coords: Coords) -> V3
     }
 }
 
+#[tactic(auto, using(crate::proofs::Coordinates::coordinate_near))]
 fn coordinate(value: i16) -> i64
-    ensures { result ≡ coordinate_of value }
+    ensures value { result ≡ coordinate_of value }
+    ensures reach { unsigned_abs result ≤ 4096 }
 {
     i64::from(coordinate_of(value))
 }
