@@ -10,7 +10,6 @@ use Rattle.inspection.specs.Pairs.{edges, edge_against, edges_against}
 use Rattle.inspection.specs.Tests.{ee_naming}
 use Rattle.inspection.specs.Lists.{At}
 use Rattle.inspection.proofs.Standing.{in_front, behind, parts}
-use Rattle.inspection.proofs.Sameness.{ee_equivalence, ee_equal}
 use Rattle.inspection.proofs.NamingLaws.{NamingLaws}
 
 -- ---- each edge of the one against each of the other
@@ -74,8 +73,8 @@ ee-turned sheet (Faces f g) (Faces k l) a j x p u =
 pub ee_laws : (sheet : Sheet) → NamingLaws ee_naming sheet
 ee_laws sheet =
     record {
-      itself = ee_equivalence.refl;
-      equal = ee_equal;
+      itself = λ x. grind (arith, nat_tests);
+      equal = λ x y h. grind (arith, nat_tests);
       scale = λ x. refl;
       valid = λ r x. (omega arith, r x.l, r x.k, r x.u, r x.v);
       turned = ee-turned sheet;

@@ -3,7 +3,6 @@ pub mod Going
 pub mod Offering
 pub mod Working
 pub mod Standing
-pub mod Sameness
 pub mod NamingLaws
 pub mod VfNames
 pub mod EeNames

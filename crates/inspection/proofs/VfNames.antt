@@ -1,5 +1,6 @@
 -- The names of tests of a point against a face.
 use Rattle.std.proofs.Common.{◌≡◌, ℕ, false, refl, subst₂, ⊎_elim, arith}
+use Rattle.std.proofs.lemmas.Bool.Decides.{nat_tests}
 use Rattle.inspection.specs.declared.names.VfName.{VfName}
 use Rattle.inspection.specs.Lists.{At}
 use Rattle.inspection.specs.Offerings.{Offering, Faces, SameOffering}
@@ -7,7 +8,6 @@ use Rattle.inspection.specs.Sheets.{Sheet, face_at}
 use Rattle.inspection.specs.Pairs.{corners_against}
 use Rattle.inspection.specs.Tests.{vf_naming}
 use Rattle.inspection.proofs.Standing.{turned}
-use Rattle.inspection.proofs.Sameness.{vf_equivalence, vf_equal}
 use Rattle.inspection.proofs.NamingLaws.{NamingLaws}
 
 vf-turned : (sheet : Sheet) (o p : Offering) → SameOffering o p → (j : ℕ) (x : VfName) → At (vf_naming.tests sheet o) j x → vf_naming.shared sheet x ≡ false → (i : ℕ) × At (vf_naming.tests sheet p) i x
@@ -22,8 +22,8 @@ vf-turned sheet (Faces f g) (Faces k l) a j x p u =
 pub vf_laws : (sheet : Sheet) → NamingLaws vf_naming sheet
 vf_laws sheet =
     record {
-      itself = vf_equivalence.refl;
-      equal = vf_equal;
+      itself = λ x. grind (arith, nat_tests);
+      equal = λ x y h. grind (arith, nat_tests);
       scale = λ x. refl;
       valid =
           λ r x.

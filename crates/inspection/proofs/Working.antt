@@ -1,5 +1,5 @@
 -- Working through requests is a run, and its accepted offers are the run's history.
-use Rattle.std.proofs.Common.{◌≡◌, ℕ, ◌+◌, Bool, true, false, cond, is_ok, List, [], ◌∷◌, ◌++◌, Ok, Err, Result, sym, refl, ap, ◌∙◌, subst, append-nil, ◌<◌, ◌≤◌, length, get_or, take, drop, set as list_set, arith}
+use Rattle.std.proofs.Common.{◌≡◌, ℕ, ◌+◌, Bool, cond, is_ok, List, [], ◌∷◌, ◌++◌, Ok, Err, Result, sym, refl, ap, ◌∙◌, subst, append-nil, ◌<◌, ◌≤◌, length, get_or, take, drop, set as list_set, arith}
 use Rattle.std.proofs.lemmas.List.{append_assoc, take_more, take_more_set, drop-set-lt, drop-drop}
 use Rattle.sheet.specs.declared.drafts.Draft.{Draft}
 use Rattle.sheet.specs.declared.rows.Point.{Point}
@@ -17,23 +17,17 @@ use Rattle.inspection.specs.Sheets.{Sheet, sheet_in}
 use Rattle.inspection.specs.declared.names.VfName.{VfName}
 use Rattle.inspection.specs.declared.names.EeName.{EeName}
 use Rattle.inspection.specs.Lists.{Contents}
-use Rattle.inspection.specs.States.{Core, State, with_depth, state_at_start}
+use Rattle.inspection.specs.States.{State, state_at_start}
 use Rattle.inspection.specs.Offers.{OfferStep}
 use Rattle.inspection.specs.Runs.{Accepted, history_after, Run, opened, depth_set, offered, asked, DepthStep}
 use Rattle.inspection.specs.Requests.{RequestStep, Steps, history}
 
--- ---- what a step leaves of the depth
-set-depth : (b : Bool) (k : ℕ) (c : Core) → (cond b (with_depth k c) c).depth ≡ cond b k c.depth
-set-depth true k c = refl
-set-depth false k c = refl
-
 module _ (set : Shape → Bool) (ps : List Point) (fs : List Face) where
   depth-after : (s t : State) (k : ℕ) (r : Result (Unit {0}) OpeningFault) → DepthStep k s.core r t.core → t.core.depth ≡ cond (is_ok r) k s.core.depth
-  depth-after s t k r a = ap (λ (c : Core). c.depth) a.core ∙ set-depth (is_ok r) k s.core
+  depth-after s t k r a = grind (arith, a.core)
 
   offer-depth : (o : Offering) (s t : State) (r : Result (Unit {0}) OfferFault) → OfferStep set ps fs o s r t → t.core.depth ≡ s.core.depth
-  offer-depth o s t (Ok u) a = ap (λ (x : State). x.core.depth) a.state
-  offer-depth o s t (Err e) a = ap (λ (x : State). x.core.depth) a.state
+  offer-depth o s t r a = grind (arith, a.state)
 
   -- ---- one step more of a run
   module _ (d : Draft) where
