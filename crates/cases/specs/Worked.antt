@@ -1,5 +1,5 @@
 -- Cases worked out by hand, as one statement about the rules.
-use Rattle.std.specs.Prelude.{◌≡◌, ℕ, List, [], ◌∷◌, Some, None, Option, ℤ, pos, neg_ℤ, codes}
+use Rattle.std.specs.Prelude.{◌≡◌, ℕ, ◌≤◌, List, [], ◌∷◌, Some, None, Option, ℤ, pos, neg_ℤ, codes}
 use Rattle.sheet.specs.Checks.{first_fit}
 use Rattle.sheet.specs.Lines.{numbered}
 use Rattle.sheet.specs.Sheet.{point_limit, face_limit, points_in, sheet_checks}
@@ -10,22 +10,56 @@ use Rattle.sheet.specs.declared.rows.Coords.{Coords}
 use Rattle.sheet.specs.declared.rows.Point.{Point}
 use Rattle.step.specs.Record.{point_record}
 use Rattle.step.specs.Laying.{lay_checks}
-use Rattle.motion.specs.Cases.{Cases}
+use Rattle.motion.specs.Cases.{Cases, crossing, landing}
+use Rattle.motion.specs.Rows.{delivered}
+use Rattle.inspection.specs.declared.classes.Class.TheVariants.{Kept}
+use Rattle.inspection.specs.declared.names.VfName.{VfName}
+use Rattle.inspection.specs.Sheets.{Sheet, sheet_of}
+use Rattle.inspection.specs.Tests.{vf_naming}
+use Rattle.inspection.specs.Classes.{class_of, rules_at}
 use Rattle.inspection.specs.Runs.{depth_checks}
 
 abbrev coords : ℤ → ℤ → ℤ → Coords
 coords x y z = record { x = x; y = y; z = z }
 
+-- a place with no coordinate below zero
+abbrev place : ℕ → ℕ → ℕ → Coords
+place x y z = coords (pos x) (pos y) (pos z)
+
 abbrev resting : Coords → Point
 resting p = record { start = p; end = p }
 
--- the point (1,1,1), which goes to (1,1,−1)
+-- the point (1,1,1), which goes to (1,1,z)
+abbrev pub falling_to : ℤ → Point
+falling_to z = record { start = place 1 1 1; end = coords (pos 1) (pos 1) z }
+
+-- to (1,1,−1), through the face below it; and to (1,1,0), onto that face
 abbrev pub falling : Point
-falling = record { start = coords (pos 1) (pos 1) (pos 1); end = coords (pos 1) (pos 1) (neg_ℤ (pos 1)) }
+falling = falling_to (neg_ℤ (pos 1))
+
+abbrev pub falling_onto : Point
+falling_onto = falling_to (pos 0)
+
+-- ---- a sheet of four points: the points 0, 1 and 2 rest, and are the corners of its face 0
+abbrev pub sheet_with : Point → Sheet
+sheet_with p =
+    sheet_of
+    (resting (place 0 0 0) ∷ resting (place 4 0 0) ∷ resting (place 0 4 0) ∷ p ∷ [])
+    (record { a = 0; b = 1; c = 2 } ∷ [])
+
+-- the point 3 against the face 0
+abbrev pub vf_name : VfName
+vf_name = record { point = 3; face = 0 }
+
+-- the test of that name is kept, with the delivered filter at any depth and an empty list
+abbrev pub IsKeptAtAnyDepth : Sheet → Type 0
+IsKeptAtAnyDepth s =
+    (depth : ℕ) → depth ≤ 6
+    → class_of (rules_at vf_naming delivered depth s) [] vf_name ≡ Kept
 
 -- the fault of a record, laid onto one point that rests at (1,1,1)
 abbrev pub fault_laid : List ℕ → Option Notice
-fault_laid bytes = first_fit (lay_checks 1 (resting (coords (pos 1) (pos 1) (pos 1)) ∷ []) bytes)
+fault_laid bytes = first_fit (lay_checks 1 (resting (place 1 1 1) ∷ []) bytes)
 
 -- the fault of a text, read into the largest tables
 abbrev pub fault_read : List ℕ → Option Notice
@@ -46,6 +80,11 @@ fault n l i k = Some (record { number = n; layer = l; first = i; second = k })
 pub record Worked : Type 0 where
   -- the cases of moving features
   pub geometric : Cases
+  -- the point that crosses the face, and the one that lands on it, by their names: they are kept
+  pub crossing_named : vf_naming.shape (sheet_with falling) vf_name ≡ crossing
+  pub crossing_kept : IsKeptAtAnyDepth (sheet_with falling)
+  pub landing_named : vf_naming.shape (sheet_with falling_onto) vf_name ≡ landing
+  pub landing_kept : IsKeptAtAnyDepth (sheet_with falling_onto)
   -- a step's record: hexadecimal 04 FE FF, then 08, 01 00 00 and 01
   pub recorded : point_record falling ≡ 4 ∷ 254 ∷ 255 ∷ []
   pub map_too_large : fault_laid (8 ∷ []) ≡ fault 9 layer.Step 0 0
@@ -55,7 +94,7 @@ pub record Worked : Type 0 where
   pub field_missing : fault_read (codes "v 1 2") ≡ fault 1 layer.Field 1 3
   pub named_before : fault_read (codes "v 0 0 0\nv 0 0 0\nf 1 1 2") ≡ fault 5 layer.Line 3 2
   pub greatest_passes : fault_read (codes "v 4096 0 0") ≡ None
-  pub greatest_said : points_read (codes "v 4096 0 0") ≡ resting (coords (pos 4096) (pos 0) (pos 0)) ∷ []
+  pub greatest_read : points_read (codes "v 4096 0 0") ≡ resting (place 4096 0 0) ∷ []
   pub past_greatest : fault_read (codes "v 4097 0 0") ≡ fault 3 layer.Line 1 1
   -- depths
   pub deepest_passes : fault_opened 6 ≡ None

@@ -1,3 +1,4 @@
 pub mod Stacked
 pub mod StackedLaws
+pub mod ByHand
 pub mod Conclusions

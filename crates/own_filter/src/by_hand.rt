@@ -1,15 +1,20 @@
 // An inspection with a filter of one's own, call by call.
-ghost use Rattle.std.specs.Prelude.{IfSome};
+ghost use Rattle.std.specs.Prelude.{◌≡◌, ◌↔◌, IsNone, IsSome, IfNone, IfSome};
+ghost use Rattle.inspection.specs.Offerings.{Faces};
 ghost use Rattle.inspection.specs.Sheets.{sheet_in};
-ghost use Rattle.inspection.specs.Lists.{contents_of};
-ghost use Rattle.own_filter.specs.Conclusions.{Concluded};
+ghost use Rattle.inspection.specs.Lists.{contents_of, entries, without_entries};
+ghost use Rattle.inspection.specs.States.{state_at_start};
+ghost use Rattle.own_filter.specs.ByHand.{fault_of_offer, after_both, counts_in};
+ghost use Rattle.own_filter.specs.Conclusions.{Conclusion};
 
 use filters::Filter;
 use inspection::{Counts, EeName, Inspection, List, VfName};
 use sheet::{Draft, Face, Point};
 
-/// Offers two faces, is refused, sets the depth, asks for a window, and offers them the other way round; none where the first offer is
-/// refused. What is then on no list stays apart: the contract concludes it from the claim that comes with the findings.
+/// Offers two faces at depth 2, is refused, sets the depth to 3, asks for a window, and offers them the other way round.
+///
+/// The counts, or none where the first offer is refused. What a crew concludes from them and from the lists rests on the claim
+/// that comes with the findings, and on nothing else of the inspection.
 pub fn inspect_by_hand<F: Filter + Drop>(
     draft: Draft,
     filter: F,
@@ -20,11 +25,24 @@ pub fn inspect_by_hand<F: Filter + Drop>(
     first: u16,
     second: u16,
 ) -> Option<Counts>
-    ensures { IfSome result (λ c. Concluded (sheet_in draft points.now faces.now) first second (contents_of vf.new) (contents_of ee.new)) }
+    ensures refused { let set = F.Filter.struck filter in
+        let start = state_at_start draft 2 (contents_of vf.old) (contents_of ee.old) in
+        let fault = fault_of_offer set points.now faces.now (Faces first second) start in
+        IsNone result ↔ IsSome fault }
+    ensures refused_vf { IfNone result (contents_of vf.new ≡ without_entries (contents_of vf.old)) }
+    ensures refused_ee { IfNone result (contents_of ee.new ≡ without_entries (contents_of ee.old)) }
+    ensures state { let set = F.Filter.struck filter in
+        let start = state_at_start draft 2 (contents_of vf.old) (contents_of ee.old) in
+        let end = after_both set points.now faces.now first second start in
+        IfSome result (λ counts. (counts ≡ counts_in end)
+        × (contents_of vf.new ≡ end.vf) × (contents_of ee.new ≡ end.ee)) }
+    ensures found { let set = F.Filter.struck filter in
+        let sheet = sheet_in draft points.now faces.now in
+        IfSome result (λ counts.
+        Conclusion set sheet first second (entries vf.new) (entries ee.new) counts) }
 {
-    let mut inspection = match Inspection::open(draft, filter, 2, vf, ee) {
-        Ok(inspection) => inspection,
-        Err(_refused) => return None,
+    let Ok(mut inspection) = Inspection::open(draft, filter, 2, vf, ee) else {
+        return None;
     };
     let Ok(()) = inspection.offer(points, faces, vf, ee, first, second) else {
         return None;

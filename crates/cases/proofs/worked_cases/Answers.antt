@@ -1,6 +1,5 @@
-use Rattle.std.proofs.Common.{refl}
 use Rattle.cases.proofs.Worked.{worked}
 use Rattle.cases.proofs.worked_cases.Goals as goal
 
-pub returns : goal.returns
-returns c = record { count = refl; cases = worked }
+pub returns-clause-cases : goal.returns-clause-cases
+returns-clause-cases c = worked
