@@ -20,8 +20,8 @@ Bytes bs = (k : ℕ) → get_or bs k 0 < 256
 apart_fits : (s e : ℤ) → le_z least s ≡ true → le_z s greatest ≡ true → le_z least e ≡ true → le_z e greatest ≡ true → SFits w16 (e -ℤ s)
 apart_fits s e p q r t = omega (arith, ints)
 
-pub move-fits : (s e : ℤ) → in_range s ≡ true → in_range e ≡ true → SFits w16 (e -ℤ s)
-move-fits s e p q =
+pub move_fits : (s e : ℤ) → in_range s ≡ true → in_range e ≡ true → SFits w16 (e -ℤ s)
+move_fits s e p q =
     let a = and_parts (le_z least s) (le_z s greatest) p in
     let b = and_parts (le_z least e) (le_z e greatest) q in
     apart_fits s e a.0 a.1 b.0 b.1
@@ -32,14 +32,14 @@ word_small z f = omega (arith, ints)
 two_bytes : (u : ℕ) → u < 65536 → u % 256 + u / 256 % 256 * 256 ≡ u
 two_bytes u h = omega arith
 
-move-back : (z : ℤ) (r : List ℕ) → SFits w16 z → move_in (word z % 256 ∷ (word z / 256 % 256 ∷ r)) ≡ z
-move-back z r f = ap (to_z w16) (two_bytes (word z) (word_small z f)) ∙ to_z-of_z w16 z f
+move_back : (z : ℤ) (r : List ℕ) → SFits w16 z → move_in (word z % 256 ∷ (word z / 256 % 256 ∷ r)) ≡ z
+move_back z r f = ap (to_z w16) (two_bytes (word z) (word_small z f)) ∙ to_z-of_z w16 z f
 
 add_back : (s e : ℤ) → s +ℤ (e -ℤ s) ≡ e
 add_back s e = omega (arith, ints)
 
-zero-move : (s e : ℤ) → SFits w16 (e -ℤ s) → word (e -ℤ s) ≡ 0 → s ≡ e
-zero-move s e f h = let k : e -ℤ s ≡ pos 0 = sym (to_z-of_z w16 (e -ℤ s) f) ∙ ap (to_z w16) h in omega (arith, ints)
+zero_move : (s e : ℤ) → SFits w16 (e -ℤ s) → word (e -ℤ s) ≡ 0 → s ≡ e
+zero_move s e f h = let k : e -ℤ s ≡ pos 0 = sym (to_z-of_z w16 (e -ℤ s) f) ∙ ap (to_z w16) h in omega (arith, ints)
 
 pub record ReadBack (a : At) (stands : Bool) (s e : ℤ) (bs r : List ℕ) : Type 0 where
   pub good : first_fit (field_checks a stands s bs) ≡ None
@@ -54,9 +54,9 @@ abbrev from_eleven : At → ℤ → List ℕ → List Check
 from_eleven a s bs = check (not (in_range (s +ℤ move_in bs))) 11 a ∷ []
 
 by_zero : (t : Bool) (a : At) (s e : ℤ) (r : List ℕ) → is_zero (e -ℤ s) ≡ t → SFits w16 (e -ℤ s) → in_range e ≡ true → ReadBack a (not t) s e (cond t [] (word (e -ℤ s) % 256 ∷ (word (e -ℤ s) / 256 % 256 ∷ [])) ++ r) r
-by_zero true a s e r z f g = record { good = refl; end = zero-move s e f (eqb-true (word (e -ℤ s)) 0 z); rest = refl }
+by_zero true a s e r z f g = record { good = refl; end = zero_move s e f (eqb-true (word (e -ℤ s)) 0 z); rest = refl }
 by_zero false a s e r z f g =
-    let m = move-back (e -ℤ s) r f in
+    let m = move_back (e -ℤ s) r f in
     let bs = word (e -ℤ s) % 256 ∷ (word (e -ℤ s) / 256 % 256 ∷ r) in
     record {
       good = fit_none (check (ltb (length bs) 2) 8 a) (from_ten a s bs) (le-ltb (length bs) 2 (omega arith))
@@ -67,7 +67,7 @@ by_zero false a s e r z f g =
     }
 
 pub field_back : (a : At) (s e : ℤ) (r : List ℕ) → in_range s ≡ true → in_range e ≡ true → ReadBack a (not (is_zero (e -ℤ s))) s e (field_of (e -ℤ s) ++ r) r
-field_back a s e r p q = by_zero (is_zero (e -ℤ s)) a s e r refl (move-fits s e p q) q
+field_back a s e r p q = by_zero (is_zero (e -ℤ s)) a s e r refl (move_fits s e p q) q
 
 pub record WrittenSo (stands : Bool) (s : ℤ) (bs : List ℕ) : Type 0 where
   pub ranges : in_range (end_in stands s bs) ≡ true
@@ -94,19 +94,19 @@ spelt l h r a b z =
     ∙ ap (λ v. v ∷ ((l + h * 256) / 256 % 256 ∷ r)) (low l h a b)
     ∙ ap (λ v. l ∷ (v ∷ r)) (high l h a b)
 
-two-or-more : (s : ℤ) (bs : List ℕ) → Bytes bs → 2 ≤ length bs → is_zero (move_in bs) ≡ false → field_of (move_in bs) ++ drop 2 bs ≡ bs
-two-or-more s [] B l z = absurd (omega arith)
-two-or-more s (x ∷ []) B l z = absurd (omega arith)
-two-or-more s (x ∷ (y ∷ r)) B l z = spelt x y r (B 0) (B 1) z
+two_or_more : (s : ℤ) (bs : List ℕ) → Bytes bs → 2 ≤ length bs → is_zero (move_in bs) ≡ false → field_of (move_in bs) ++ drop 2 bs ≡ bs
+two_or_more s [] B l z = absurd (omega arith)
+two_or_more s (x ∷ []) B l z = absurd (omega arith)
+two_or_more s (x ∷ (y ∷ r)) B l z = spelt x y r (B 0) (B 1) z
 
-pub field-only : (a : At) (stands : Bool) (s : ℤ) (bs : List ℕ) → Bytes bs → in_range s ≡ true → first_fit (field_checks a stands s bs) ≡ None → WrittenSo stands s bs
-field-only a false s bs B p g = record { ranges = p; bit = ap is_zero (no_move s); bytes = ap (λ v. field_of v ++ bs) (no_move s) }
-field-only a true s bs B p g =
+pub field_only : (a : At) (stands : Bool) (s : ℤ) (bs : List ℕ) → Bytes bs → in_range s ≡ true → first_fit (field_checks a stands s bs) ≡ None → WrittenSo stands s bs
+field_only a false s bs B p g = record { ranges = p; bit = ap is_zero (no_move s); bytes = ap (λ v. field_of v ++ bs) (no_move s) }
+field_only a true s bs B p g =
     let c8 = no_fit (check (ltb (length bs) 2) 8 a) (from_ten a s bs) g in
     let c10 = no_fit (check (is_zero (move_in bs)) 10 a) (from_eleven a s bs) c8.1 in
     let c11 = no_fit (check (not (in_range (s +ℤ move_in bs))) 11 a) [] c10.1 in
     record {
       ranges = not-false _ c11.0;
       bit = ap is_zero (sub_back s (move_in bs)) ∙ c10.0;
-      bytes = ap (λ v. field_of v ++ drop 2 bs) (sub_back s (move_in bs)) ∙ two-or-more s bs B (ltb-false (length bs) 2 c8.0) c10.0;
+      bytes = ap (λ v. field_of v ++ drop 2 bs) (sub_back s (move_in bs)) ∙ two_or_more s bs B (ltb-false (length bs) 2 c8.0) c10.0;
     }

@@ -11,33 +11,33 @@ use Rattle.step.specs.Laying.{check, after_row, rows_checks, with_ends, lay_chec
 use Rattle.step.specs.Steps.{Step}
 use Rattle.step.specs.declared.faults.StepFault.{StepFault}
 use Rattle.step.proofs.FieldLaws.{fit_none, Bytes}
-use Rattle.step.proofs.StepLaws.{rows_back, rows-only}
+use Rattle.step.proofs.StepLaws.{rows_back, rows_only}
 
-length-with_ends : (ps : List Point) (bs : List ℕ) → length (with_ends ps bs) ≡ length ps
-length-with_ends [] bs = refl
-length-with_ends (p ∷ ps) bs = let h = length-with_ends ps (after_row bs) in omega arith
+length_with_ends : (ps : List Point) (bs : List ℕ) → length (with_ends ps bs) ≡ length ps
+length_with_ends [] bs = refl
+length_with_ends (p ∷ ps) bs = let h = length_with_ends ps (after_row bs) in omega arith
 
-front-is : (n : ℕ) (points after : List Point) (bs : List ℕ) → n ≤ length points → after ≡ onto_front (with_ends (take n points) bs) points → take n after ≡ with_ends (take n points) bs
-front-is n points after bs h e =
-    let l : length (with_ends (take n points) bs) ≡ n = length-with_ends (take n points) bs ∙ length-take-le n points h in
+front_of : (n : ℕ) (points after : List Point) (bs : List ℕ) → n ≤ length points → after ≡ onto_front (with_ends (take n points) bs) points → take n after ≡ with_ends (take n points) bs
+front_of n points after bs h e =
+    let l : length (with_ends (take n points) bs) ≡ n = length_with_ends (take n points) bs ∙ length-take-le n points h in
     ap (take n) e ∙ take_at (with_ends (take n points) bs) (drop (length (with_ends (take n points) bs)) points) n l
 
 -- only what the writer makes is accepted
-pub lay-only : (r : Result (Unit {0}) StepFault) (n : ℕ) (points after : List Point) (bs : List ℕ) → Bytes bs → fault_notice notice_of_step r ≡ first_fit (lay_checks n points bs) → after ≡ cond (is_ok r) (onto_front (with_ends (take n points) bs) points) points → IfOk r (λ _. Step (take n points) bs (take n after))
-lay-only (Ok x) n points after bs B a t =
+pub lay_only : (r : Result (Unit {0}) StepFault) (n : ℕ) (points after : List Point) (bs : List ℕ) → Bytes bs → fault_notice notice_of_step r ≡ first_fit (lay_checks n points bs) → after ≡ cond (is_ok r) (onto_front (with_ends (take n points) bs) points) points → IfOk r (λ _. Step (take n points) bs (take n after))
+lay_only (Ok x) n points after bs B a t =
     let c = no_fit (check (ltb (length points) n) 13 (place 0 0)) (rows_checks 0 (take n points) bs) (sym a) in
-    subst (Step (take n points) bs) (sym (front-is n points after bs (ltb-false (length points) n c.0) t)) (rows-only 0 (take n points) bs B c.1)
-lay-only (Err e) n points after bs B a t = tt
+    subst (Step (take n points) bs) (sym (front_of n points after bs (ltb-false (length points) n c.0) t)) (rows_only 0 (take n points) bs B c.1)
+lay_only (Err e) n points after bs B a t = tt
 
 was_good : (r : Result (Unit {0}) StepFault) → fault_notice notice_of_step r ≡ None → is_ok r ≡ true
 was_good (Ok y) e = refl
 was_good (Err d) e = cc
 
 -- what the writer makes is accepted, and gives its rows back
-pub lay-back : (r : Result (Unit {0}) StepFault) (n : ℕ) (points after qs : List Point) (bs : List ℕ) → fault_notice notice_of_step r ≡ first_fit (lay_checks n points bs) → after ≡ cond (is_ok r) (onto_front (with_ends (take n points) bs) points) points → n ≤ length points → Step (take n points) bs qs → (is_ok r ≡ true) × (take n after ≡ qs)
-lay-back r n points after qs bs a t h s =
+pub lay_back : (r : Result (Unit {0}) StepFault) (n : ℕ) (points after qs : List Point) (bs : List ℕ) → fault_notice notice_of_step r ≡ first_fit (lay_checks n points bs) → after ≡ cond (is_ok r) (onto_front (with_ends (take n points) bs) points) points → n ≤ length points → Step (take n points) bs qs → (is_ok r ≡ true) × (take n after ≡ qs)
+lay_back r n points after qs bs a t h s =
     let b = rows_back 0 (take n points) qs s.0 in
     let g : first_fit (lay_checks n points bs) ≡ None
     = fit_none (check (ltb (length points) n) 13 (place 0 0)) (rows_checks 0 (take n points) bs) (le-ltb (length points) n h) (ap (λ l. first_fit (rows_checks 0 (take n points) l)) (sym s.1) ∙ b.0) in
     let ok = was_good r (a ∙ g) in
-    (ok, front-is n points after bs h (t ∙ ap (λ v. cond v (onto_front (with_ends (take n points) bs) points) points) ok) ∙ ap (with_ends (take n points)) (sym s.1) ∙ b.1)
+    (ok, front_of n points after bs h (t ∙ ap (λ v. cond v (onto_front (with_ends (take n points) bs) points) points) ok) ∙ ap (with_ends (take n points)) (sym s.1) ∙ b.1)

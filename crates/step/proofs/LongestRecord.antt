@@ -6,27 +6,27 @@ use Rattle.sheet.specs.declared.rows.Point.{Point}
 use Rattle.step.specs.Limit.{mover, Longest}
 use Rattle.step.specs.Record.{is_zero, field_of, moves_record, moves_of, point_record, record_of}
 
-two-at-most : (b : Bool) (l h : ℕ) → length (cond b [] (l ∷ (h ∷ []))) ≤ 2
-two-at-most true l h = omega arith
-two-at-most false l h = omega arith
+two_at_most : (b : Bool) (l h : ℕ) → length (cond b [] (l ∷ (h ∷ []))) ≤ 2
+two_at_most true l h = omega arith
+two_at_most false l h = omega arith
 
-field-most : (z : ℤ) → length (field_of z) ≤ 2
-field-most z = two-at-most (is_zero z) _ _
+field_most : (z : ℤ) → length (field_of z) ≤ 2
+field_most z = two_at_most (is_zero z) _ _
 
-moves-most : (m : Coords) → length (moves_record m) ≤ 7
-moves-most m =
-    let x = field-most m.x in
-    let y = field-most m.y in
-    let z = field-most m.z in
+moves_most : (m : Coords) → length (moves_record m) ≤ 7
+moves_most m =
+    let x = field_most m.x in
+    let y = field_most m.y in
+    let z = field_most m.z in
     omega (arith, length-append (field_of m.x) (field_of m.y ++ field_of m.z), length-append (field_of m.y) (field_of m.z))
 
-rows-most : (ps : List Point) → length (record_of ps) ≤ 7 * length ps
-rows-most [] = omega arith
-rows-most (p ∷ ps) = let a = rows-most ps in let b = moves-most (moves_of p) in omega (arith, length-append (point_record p) (record_of ps))
+rows_most : (ps : List Point) → length (record_of ps) ≤ 7 * length ps
+rows_most [] = omega arith
+rows_most (p ∷ ps) = let a = rows_most ps in let b = moves_most (moves_of p) in omega (arith, length-append (point_record p) (record_of ps))
 
-all-move : (m : ℕ) → length (record_of (replicate m mover)) ≡ 7 * m
-all-move zero = refl
-all-move (suc m) = let a = all-move m in omega (arith, length-append (point_record mover) (record_of (replicate m mover)))
+all_move : (m : ℕ) → length (record_of (replicate m mover)) ≡ 7 * m
+all_move zero = refl
+all_move (suc m) = let a = all_move m in omega (arith, length-append (point_record mover) (record_of (replicate m mover)))
 
 pub longest : (m : ℕ) → Longest m (7 * m)
-longest m = (λ ps h. omega (arith, rows-most ps), all-move m)
+longest m = (λ ps h. omega (arith, rows_most ps), all_move m)

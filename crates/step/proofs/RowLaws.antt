@@ -1,19 +1,20 @@
 -- One row: what is written of it reads back, and what is read is what is written.
 use Rattle.std.proofs.Common.{◌≡◌, ℕ, zero, suc, ◌+◌, ◌*◌, ◌/◌, ◌%◌, ◌<◌, Bool, true, false, cond, not, eqb, ltb, List, [], ◌∷◌, ◌++◌, length, drop, ℤ, ◌-ℤ◌, None, sym, refl, ap, ◌∙◌, subst, inl, inr, one-mul, zero-mul, arith}
+use Rattle.std.proofs.Math.Bool.{not-not}
 use Rattle.std.proofs.lemmas.List.{append_assoc, get_or-drop}
 use Rattle.std.proofs.lemmas.Bool.{cond-true, cond-false, eq-eqb, ne_eqb, eqb-false, cases_eq, ltb-false, and_from, and_parts}
 use Rattle.sheet.specs.Checks.{Check, first_fit}
 use Rattle.sheet.specs.Counted.{in_range, counted, within}
 use Rattle.sheet.specs.declared.rows.Coords.{Coords}
 use Rattle.sheet.specs.declared.rows.Point.{Point}
-use Rattle.sheet.proofs.FirstFit.{no_fit, none_parts}
+use Rattle.sheet.proofs.FirstFit.{first_fit_append, no_fit, none_parts}
 use Rattle.step.specs.Faults.{place}
 use Rattle.step.specs.Laying.{check, field_checks, after_field, bit_stands, map_in, after_x, after_y, row_checks, end_of, after_row}
 use Rattle.step.specs.Record.{is_zero, field_of, map_byte, moves_record}
 use Rattle.step.specs.declared.faults.At.{At}
-use Rattle.step.proofs.CountedLaws.{counted-within}
+use Rattle.step.proofs.CountedLaws.{counted_within}
 use Rattle.step.proofs.FirstField.{fields_first}
-use Rattle.step.proofs.FieldLaws.{fit_none, Bytes, ReadBack, field_back, field-only}
+use Rattle.step.proofs.FieldLaws.{fit_none, Bytes, ReadBack, field_back, field_only}
 
 -- where each field stands in the record of a row, and its checks
 
@@ -55,33 +56,21 @@ map_of false true false = (refl, refl, refl, refl)
 map_of false false true = (refl, refl, refl, refl)
 map_of false false false = (refl, refl, refl, refl)
 
-bit-value : (b k : ℕ) → b < 2 → cond (eqb b 0) 0 k ≡ b * k
-bit-value b k h =
+bit_value : (b k : ℕ) → b < 2 → cond (eqb b 0) 0 k ≡ b * k
+bit_value b k h =
     elim (cases_eq b 0) [
       | inl e ↦ cond-true _ _ _ (eq-eqb b 0 e) ∙ sym (ap (λ x. x * k) e ∙ zero-mul k)
       | inr n ↦ let one : b ≡ 1 = omega arith in cond-false _ _ _ (ne_eqb b 0 n) ∙ sym (ap (λ x. x * k) one ∙ one-mul k)
     ]
 
 eight : (m : ℕ) → m < 8 → m / 1 % 2 * 1 + m / 2 % 2 * 2 + m / 4 % 2 * 4 ≡ m
-eight zero h = refl
-eight (suc zero) h = refl
-eight (suc (suc zero)) h = refl
-eight (suc (suc (suc zero))) h = refl
-eight (suc (suc (suc (suc zero)))) h = refl
-eight (suc (suc (suc (suc (suc zero))))) h = refl
-eight (suc (suc (suc (suc (suc (suc zero)))))) h = refl
-eight (suc (suc (suc (suc (suc (suc (suc zero))))))) h = refl
-eight (suc (suc (suc (suc (suc (suc (suc (suc m)))))))) h = absurd (omega arith)
-
-not-not : (b : Bool) → not (not b) ≡ b
-not-not true = refl
-not-not false = refl
+eight m h = omega arith
 
 bits_are : (m : ℕ) (a b c : Bool) → m < 8 → a ≡ not (bit_stands m 1) → b ≡ not (bit_stands m 2) → c ≡ not (bit_stands m 4) → bits a b c ≡ m
 bits_are m a b c h p q r =
-    let x : cond a 0 1 ≡ m / 1 % 2 * 1 = ap (λ t. cond t 0 1) (p ∙ not-not (eqb (m / 1 % 2) 0)) ∙ bit-value (m / 1 % 2) 1 (omega arith) in
-    let y : cond b 0 2 ≡ m / 2 % 2 * 2 = ap (λ t. cond t 0 2) (q ∙ not-not (eqb (m / 2 % 2) 0)) ∙ bit-value (m / 2 % 2) 2 (omega arith) in
-    let z : cond c 0 4 ≡ m / 4 % 2 * 4 = ap (λ t. cond t 0 4) (r ∙ not-not (eqb (m / 4 % 2) 0)) ∙ bit-value (m / 4 % 2) 4 (omega arith) in
+    let x : cond a 0 1 ≡ m / 1 % 2 * 1 = ap (λ t. cond t 0 1) (p ∙ not-not (eqb (m / 1 % 2) 0)) ∙ bit_value (m / 1 % 2) 1 (omega arith) in
+    let y : cond b 0 2 ≡ m / 2 % 2 * 2 = ap (λ t. cond t 0 2) (q ∙ not-not (eqb (m / 2 % 2) 0)) ∙ bit_value (m / 2 % 2) 2 (omega arith) in
+    let z : cond c 0 4 ≡ m / 4 % 2 * 4 = ap (λ t. cond t 0 4) (r ∙ not-not (eqb (m / 4 % 2) 0)) ∙ bit_value (m / 4 % 2) 4 (omega arith) in
     let w = eight m h in
     omega arith
 
@@ -92,9 +81,8 @@ pub record RowBack (i : ℕ) (p : Point) (e : Coords) (bs r : List ℕ) : Type 0
   pub end : end_of p bs ≡ e
   pub rest : after_row bs ≡ r
 
-pub none-append : (cs ds : List Check) → first_fit cs ≡ None → first_fit ds ≡ None → first_fit (cs ++ ds) ≡ None
-none-append [] ds e f = f
-none-append (c ∷ cs) ds e f = let p = no_fit c cs e in fit_none c (cs ++ ds) p.0 (none-append cs ds p.1 f)
+pub none_append : (cs ds : List Check) → first_fit cs ≡ None → first_fit ds ≡ None → first_fit (cs ++ ds) ≡ None
+none_append cs ds e f = rw (first_fit_append cs ds, e) f
 
 all_none : (i : ℕ) (p : Point) (bs : List ℕ) → let s = counted p.start in eqb (length bs) 0 ≡ false → ltb 7 (map_in bs) ≡ false → first_fit (x_checks i s bs) ≡ None → first_fit (y_checks i s bs) ≡ None → first_fit (z_checks i s bs) ≡ None → first_fit (row_checks i p bs) ≡ None
 all_none i p bs some small x y z = rw (some, small, fields_first (map_in bs) i (counted p.start) (x_field bs), x, y, z) refl
@@ -106,10 +94,10 @@ read_at a b c s e xs ys r p q h = subst (λ t. ReadBack a t s e xs r) (sym p) (s
 same : (u v : Coords) → u.x ≡ v.x → u.y ≡ v.y → u.z ≡ v.z → ◌≡◌ {A = Coords} (record { x = u.x; y = u.y; z = u.z }) (record { x = v.x; y = v.y; z = v.z })
 same u v p q r = simp (p, q, r)
 
-pub row-back : (i : ℕ) (p : Point) (e : Coords) (r : List ℕ) → within e ≡ true → RowBack i p e (moves_record (apart (counted p.start) e) ++ r) r
-row-back i p e r q =
+pub row_back : (i : ℕ) (p : Point) (e : Coords) (r : List ℕ) → within e ≡ true → RowBack i p e (moves_record (apart (counted p.start) e) ++ r) r
+row_back i p e r q =
     let s = counted p.start in
-    let sx = and_parts (in_range s.x) _ (counted-within p.start) in
+    let sx = and_parts (in_range s.x) _ (counted_within p.start) in
     let sy = and_parts (in_range s.y) (in_range s.z) sx.1 in
     let ex = and_parts (in_range e.x) _ q in
     let ey = and_parts (in_range e.y) (in_range e.z) ex.1 in
@@ -150,14 +138,14 @@ pub record RowOnly (p : Point) (bs : List ℕ) : Type 0 where
 by_map : (i : ℕ) (p : Point) (bs : List ℕ) → let s = counted p.start in Bytes bs → ltb 7 (map_in bs) ≡ false → first_fit (x_checks i s bs) ≡ None → first_fit (y_checks i s bs) ≡ None → first_fit (z_checks i s bs) ≡ None → map_in bs ∷ x_field bs ≡ bs → RowOnly p bs
 by_map i p bs B m x y z front =
     let s = counted p.start in
-    let sx = and_parts (in_range s.x) _ (counted-within p.start) in
+    let sx = and_parts (in_range s.x) _ (counted_within p.start) in
     let sy = and_parts (in_range s.y) (in_range s.z) sx.1 in
     let Bx = bytes_drop 1 bs B in
     let By = bytes_after (bit_stands (map_in bs) 1) (x_field bs) Bx in
     let Bz = bytes_after (bit_stands (map_in bs) 2) (y_field bs) By in
-    let wx = field-only (place i 1) (bit_stands (map_in bs) 1) s.x (x_field bs) Bx sx.0 x in
-    let wy = field-only (place i 2) (bit_stands (map_in bs) 2) s.y (y_field bs) By sy.0 y in
-    let wz = field-only (place i 3) (bit_stands (map_in bs) 4) s.z (z_field bs) Bz sy.1 z in
+    let wx = field_only (place i 1) (bit_stands (map_in bs) 1) s.x (x_field bs) Bx sx.0 x in
+    let wy = field_only (place i 2) (bit_stands (map_in bs) 2) s.y (y_field bs) By sy.0 y in
+    let wz = field_only (place i 3) (bit_stands (map_in bs) 4) s.z (z_field bs) Bz sy.1 z in
     let e = end_of p bs in
     let d = apart s e in
     let fx = field_of d.x in
@@ -177,8 +165,8 @@ front_of : (bs : List ℕ) → eqb (length bs) 0 ≡ false → map_in bs ∷ x_f
 front_of [] e = absurd (eqb-false 0 0 e refl)
 front_of (b ∷ bs) e = refl
 
-pub row-only : (i : ℕ) (p : Point) (bs : List ℕ) → Bytes bs → first_fit (row_checks i p bs) ≡ None → RowOnly p bs
-row-only i p bs B g =
+pub row_only : (i : ℕ) (p : Point) (bs : List ℕ) → Bytes bs → first_fit (row_checks i p bs) ≡ None → RowOnly p bs
+row_only i p bs B g =
     let s = counted p.start in
     let fields = x_checks i s bs ++ (y_checks i s bs ++ z_checks i s bs) in
     let small = check (ltb 7 (map_in bs)) 9 (place i 0) in

@@ -11,12 +11,12 @@ use Rattle.step.specs.Laying.{check, row_checks, end_of, after_row, with_end, ro
 use Rattle.step.specs.Record.{moves_of, moves_record, point_record, record_of}
 use Rattle.step.specs.Steps.{Ends, Step, as_counted}
 use Rattle.step.proofs.FieldLaws.{Bytes}
-use Rattle.step.proofs.CountedLaws.{coordinate_of_same, coordinate_of-range, counted-within}
-use Rattle.step.proofs.RowLaws.{apart, none-append, RowBack, row-back, row-only}
+use Rattle.step.proofs.CountedLaws.{coordinate_of_same, coordinate_of_within, counted_within}
+use Rattle.step.proofs.RowLaws.{apart, none_append, RowBack, row_back, row_only}
 
 -- the moves of a row whose end is in range
-moves-are : (p q : Point) → q.start ≡ p.start → within q.end ≡ true → moves_of q ≡ apart (counted p.start) q.end
-moves-are p q e w =
+moves_are : (p q : Point) → q.start ≡ p.start → within q.end ≡ true → moves_of q ≡ apart (counted p.start) q.end
+moves_are p q e w =
     let x = and_parts (in_range q.end.x) _ w in
     let y = and_parts (in_range q.end.y) (in_range q.end.z) x.1 in
     let hx = coordinate_of_same q.end.x x.0 in
@@ -34,11 +34,11 @@ rows_back i [] [] e = (refl, refl)
 rows_back i [] (q ∷ qs) e = absurd e
 rows_back i (p ∷ ps) [] e = absurd e
 rows_back i (p ∷ ps) (q ∷ qs) e =
-    let m = moves-are p q e.0 e.1 in
+    let m = moves_are p q e.0 e.1 in
     let b : RowBack i p q.end (record_of (q ∷ qs)) (record_of qs)
-    = subst (λ v. RowBack i p q.end (moves_record v ++ record_of qs) (record_of qs)) (sym m) (row-back i p q.end (record_of qs) e.1) in
+    = subst (λ v. RowBack i p q.end (moves_record v ++ record_of qs) (record_of qs)) (sym m) (row_back i p q.end (record_of qs) e.1) in
     let more = rows_back (i + 1) ps qs e.2 in (
-      none-append (row_checks i p (record_of (q ∷ qs))) (rows_checks (i + 1) ps (after_row (record_of (q ∷ qs)))) b.good (ap (λ r. first_fit (rows_checks (i + 1) ps r)) b.rest ∙ more.0),
+      none_append (row_checks i p (record_of (q ∷ qs))) (rows_checks (i + 1) ps (after_row (record_of (q ∷ qs)))) b.good (ap (λ r. first_fit (rows_checks (i + 1) ps r)) b.rest ∙ more.0),
       ap (λ v. record { start = v; end = end_of p (record_of (q ∷ qs)) } ∷ with_ends ps (after_row (record_of (q ∷ qs)))) (sym e.0)
           ∙ ap (λ v. record { start = q.start; end = v } ∷ with_ends ps (after_row (record_of (q ∷ qs)))) b.end
           ∙ ap (λ r. q ∷ with_ends ps r) b.rest
@@ -50,26 +50,26 @@ rows_back i (p ∷ ps) (q ∷ qs) e =
 no_more : (bs : List ℕ) → not (eqb (length bs) 0) ≡ false → [] ≡ bs
 no_more bs e = sym (nil_from_length bs (eqb-true (length bs) 0 (not-false _ e)))
 
-pub rows-only : (i : ℕ) (ps : List Point) (bs : List ℕ) → Bytes bs → first_fit (rows_checks i ps bs) ≡ None → Step ps bs (with_ends ps bs)
-rows-only i [] bs B g = (tt, no_more bs (no_fit (check (not (eqb (length bs) 0)) 12 (place 0 0)) [] g).0)
-rows-only i (p ∷ ps) bs B g =
+pub rows_only : (i : ℕ) (ps : List Point) (bs : List ℕ) → Bytes bs → first_fit (rows_checks i ps bs) ≡ None → Step ps bs (with_ends ps bs)
+rows_only i [] bs B g = (tt, no_more bs (no_fit (check (not (eqb (length bs) 0)) 12 (place 0 0)) [] g).0)
+rows_only i (p ∷ ps) bs B g =
     let q = with_end p bs in
     let parts = none_parts (row_checks i p bs) (rows_checks (i + 1) ps (after_row bs)) g in
-    let o = row-only i p bs B parts.0 in
-    let more = rows-only (i + 1) ps (after_row bs) o.rest parts.1 in (
+    let o = row_only i p bs B parts.0 in
+    let more = rows_only (i + 1) ps (after_row bs) o.rest parts.1 in (
       (refl, o.ranges, more.0),
-      ap (λ m. moves_record m ++ record_of (with_ends ps (after_row bs))) (moves-are p q refl o.ranges)
+      ap (λ m. moves_record m ++ record_of (with_ends ps (after_row bs))) (moves_are p q refl o.ranges)
           ∙ ap (λ r. moves_record (apart (counted p.start) (end_of p bs)) ++ r) more.1
           ∙ o.bytes,
     )
 
 -- THE RECORD OF ANY TABLE
 
-moves-counted : (p : Point) → moves_of (record { start = p.start; end = counted p.end }) ≡ moves_of p
-moves-counted p =
-    let hx = coordinate_of_same (coordinate_of p.end.x) (coordinate_of-range p.end.x) in
-    let hy = coordinate_of_same (coordinate_of p.end.y) (coordinate_of-range p.end.y) in
-    let hz = coordinate_of_same (coordinate_of p.end.z) (coordinate_of-range p.end.z) in
+moves_counted : (p : Point) → moves_of (record { start = p.start; end = counted p.end }) ≡ moves_of p
+moves_counted p =
+    let hx = coordinate_of_same (coordinate_of p.end.x) (coordinate_of_within p.end.x) in
+    let hy = coordinate_of_same (coordinate_of p.end.y) (coordinate_of_within p.end.y) in
+    let hz = coordinate_of_same (coordinate_of p.end.z) (coordinate_of_within p.end.z) in
     ap (λ v. record { x = v -ℤ coordinate_of p.start.x; y = coordinate_of (coordinate_of p.end.y) -ℤ coordinate_of p.start.y; z = coordinate_of (coordinate_of p.end.z) -ℤ coordinate_of p.start.z }) hx
     ∙ ap (λ v. record { x = coordinate_of p.end.x -ℤ coordinate_of p.start.x; y = v -ℤ coordinate_of p.start.y; z = coordinate_of (coordinate_of p.end.z) -ℤ coordinate_of p.start.z }) hy
     ∙ ap (λ v. record { x = coordinate_of p.end.x -ℤ coordinate_of p.start.x; y = coordinate_of p.end.y -ℤ coordinate_of p.start.y; z = v -ℤ coordinate_of p.start.z }) hz
@@ -78,6 +78,6 @@ pub counted_step : (ps : List Point) → Step ps (record_of ps) (as_counted ps)
 counted_step [] = (tt, refl)
 counted_step (p ∷ ps) =
     let more = counted_step ps in (
-      (refl, counted-within p.end, more.0),
-      ap (λ m. moves_record m ++ record_of (as_counted ps)) (moves-counted p) ∙ ap (λ r. point_record p ++ r) more.1,
+      (refl, counted_within p.end, more.0),
+      ap (λ m. moves_record m ++ record_of (as_counted ps)) (moves_counted p) ∙ ap (λ r. point_record p ++ r) more.1,
     )

@@ -5,7 +5,7 @@ use Rattle.sheet.specs.Checks.{first_fit, fault_notice}
 use Rattle.sheet.specs.Sheet.{onto_front}
 use Rattle.step.specs.Faults.{notice_of_step}
 use Rattle.step.specs.Laying.{with_ends, lay_checks}
-use Rattle.step.proofs.LayAnswers.{lay-only, lay-back}
+use Rattle.step.proofs.LayAnswers.{lay_only, lay_back}
 use Rattle.step.proofs.laying.lay.Goals as goal
 
 pub returns : goal.returns
@@ -19,6 +19,6 @@ returns c =
     record {
       fault = a;
       points = t;
-      only = lay-only c.lay_rows.result n ps qs bs (λ k. (c.type_inv.bytes k).fits) a t;
-      back = λ ends h s. lay-back c.lay_rows.result n ps qs ends bs a t h s;
+      only = lay_only c.lay_rows.result n ps qs bs (λ k. (c.type_inv.bytes k).fits) a t;
+      back = λ ends h s. lay_back c.lay_rows.result n ps qs ends bs a t h s;
     }
