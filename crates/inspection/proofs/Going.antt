@@ -4,7 +4,6 @@ use Rattle.inspection.specs.declared.classes.Tally.{Tally}
 use Rattle.inspection.specs.Tallies.{no_tests, total, with_one_more}
 use Rattle.inspection.specs.Classes.{Rules, class_of, entries_with, entries_after, tally_after}
 
-
 module _ {E : Type 0} (j : Rules E) (old tests : List E) where
   pub record Going (i : ℕ) (new : List E) (tally : Tally) : Type 0 where
     pub entries : entries_after j (old ++ new) (drop i tests) ≡ entries_after j old tests

@@ -17,11 +17,11 @@ use Rattle.inspection.specs.declared.kinds.ListKind.TheVariants.{Vf, Ee}
 use Rattle.inspection.specs.Tallies.{no_tests, total, with_one_more, sum_of, tally_in}
 use Rattle.inspection.specs.Offerings.{Offering, Faces}
 use Rattle.inspection.specs.Sheets.{Sheet, sheet_in, moving_of, nowhere, point_at, face_at}
-use Rattle.inspection.specs.Tests.{Naming, vf_naming, ee_naming}
+use Rattle.inspection.specs.Tests.{Naming, corners_below, vf_naming, ee_naming}
 use Rattle.inspection.specs.Lists.{At}
 use Rattle.inspection.specs.Classes.{Rules, rules_at, class_of, entries_with, entries_after, tally_after}
 use Rattle.inspection.specs.States.{Core, State}
-use Rattle.inspection.specs.Offers.{lacks_rows, entries_by, tally_by, state_after, offer_checks, corners_below}
+use Rattle.inspection.specs.Offers.{lacks_rows, entries_by, tally_by, state_after, offer_checks}
 use Rattle.inspection.specs.Runs.{depth_checks, Opened, DepthStep, Accepted, Brings, Run}
 use Rattle.inspection.specs.Runs.Run.{opened, depth_set, offered, asked}
 use Rattle.inspection.specs.Claims.{CountsOfKind, how_many, OfSheet}

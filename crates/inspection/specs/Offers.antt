@@ -1,5 +1,5 @@
 -- An offer: its checks, in their order, and what it leaves where none fits.
-use Rattle.std.specs.Prelude.{◌≡◌, ℕ, ◌-◌, Bool, not, if◌then◌else◌, ◌&&◌, ◌||◌, List, [], ◌∷◌, ◌++◌, length, Result, is_ok, ◌==◌, nat_le, nat_lt}
+use Rattle.std.specs.Prelude.{◌≡◌, ℕ, ◌-◌, Bool, not, if◌then◌else◌, ◌||◌, List, [], ◌∷◌, ◌++◌, length, Result, is_ok, ◌==◌, nat_le, nat_lt}
 use Rattle.sheet.specs.Checks.{Check, first_fit, fault_notice}
 use Rattle.sheet.specs.declared.notices.Layer.TheVariants.{Offer}
 use Rattle.sheet.specs.declared.rows.Point.{Point}
@@ -12,7 +12,7 @@ use Rattle.inspection.specs.Faults.{refuses, notice_of_offer}
 use Rattle.inspection.specs.Tallies.{no_tests, total}
 use Rattle.inspection.specs.Offerings.{Offering, Faces}
 use Rattle.inspection.specs.Sheets.{Sheet, sheet_in, face_at}
-use Rattle.inspection.specs.Tests.{Naming, vf_naming, ee_naming}
+use Rattle.inspection.specs.Tests.{Naming, corners_below, vf_naming, ee_naming}
 use Rattle.inspection.specs.Lists.{Contents, with_entries}
 use Rattle.inspection.specs.Classes.{rules_at, entries_after, tally_after}
 use Rattle.inspection.specs.States.{State, with_counts}
@@ -20,10 +20,6 @@ use Rattle.inspection.specs.States.{State, with_counts}
 -- a table is shorter than its count
 abbrev pub lacks_rows : Draft → List Point → List Face → Bool
 lacks_rows d ps fs = nat_lt (length ps) d.points || nat_lt (length fs) d.faces
-
--- each corner is one of so many points
-abbrev pub corners_below : ℕ → Face → Bool
-corners_below p f = nat_lt f.a p && nat_lt f.b p && nat_lt f.c p
 
 abbrev pub offer_limit : ℕ
 offer_limit = 1000000

@@ -1,5 +1,5 @@
 -- The tests that names stand for, over a sheet.
-use Rattle.std.specs.Prelude.{Bool, ◌&&◌, List, length, nat_lt}
+use Rattle.std.specs.Prelude.{ℕ, Bool, ◌&&◌, List, length, nat_lt}
 use Rattle.sheet.specs.declared.rows.Face.{Face}
 use Rattle.motion.specs.declared.shapes.Kind.TheVariants.{Vf, Ee}
 use Rattle.motion.specs.declared.shapes.Shape.{Shape}
@@ -37,9 +37,12 @@ abbrev pub vf_shared : Sheet → VfName → Bool
 vf_shared s n = is_corner n.point (face_at s n.face)
 
 -- ---- numbers of the sheet
+-- each corner is one of so many points
+abbrev pub corners_below : ℕ → Face → Bool
+corners_below n f = nat_lt f.a n && nat_lt f.b n && nat_lt f.c n
+
 abbrev pub corners_inside : Sheet → Face → Bool
-corners_inside s f =
-    let n = length s.points in nat_lt f.a n && nat_lt f.b n && nat_lt f.c n
+corners_inside s f = corners_below (length s.points) f
 
 -- its point, its face number and the corners of that face
 abbrev pub vf_inside : Sheet → VfName → Bool

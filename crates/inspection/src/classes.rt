@@ -1,6 +1,9 @@
 // The classes of tests, and their counts.
 ghost use Rattle.std.specs.Prelude.{◌≡◌, ◌+◌, ◌^◌, ◌<◌};
-ghost use Rattle.inspection.specs.Tallies.{no_tests, total, with_one_more, sum_of};
+ghost use Rattle.inspection.specs.Tallies.{no_tests, total, with_one_more, sum_of, tally_in};
+ghost use Rattle.inspection.specs.declared.kinds.ListKind.TheVariants.{Vf, Ee};
+
+use crate::kinds::ListKind;
 
 /// What became of a test of an offer: the first of shared, struck, repeated and kept that fits.
 #[derive(Clone, Copy)]
@@ -27,7 +30,21 @@ pub struct Counts {
     pub ee: Tally,
 }
 
+impl Counts {
+    /// Those of an inspection's two tallies.
+    pub(crate) fn of(tallies: &[Tally; 2]) -> Counts
+        ensures vf { result.vf ≡ tally_in Vf tallies.now }
+        ensures ee { result.ee ≡ tally_in Ee tallies.now }
+    {
+        Counts {
+            vf: tallies[ListKind::Vf as usize],
+            ee: tallies[ListKind::Ee as usize],
+        }
+    }
+}
+
 impl Tally {
+    /// No tests yet.
     pub(crate) fn none() -> Tally
         ensures { result ≡ no_tests }
     {

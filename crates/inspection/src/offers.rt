@@ -4,10 +4,11 @@ ghost use Rattle.sheet.specs.Checks.{first_fit, fault_notice};
 ghost use Rattle.inspection.specs.Faults.{notice_of_offer};
 ghost use Rattle.inspection.specs.Offerings.{Faces};
 ghost use Rattle.inspection.specs.Sheets.{sheet_of_rows, sheet_in};
-ghost use Rattle.inspection.specs.Offers.{corners_below, checks_but_room};
+ghost use Rattle.inspection.specs.Offers.{checks_but_room};
 
 use crate::faults::OfferFault;
 use crate::sheets::Rows;
+use crate::tests::has_corners_below;
 use sheet::{Draft, Face, Point};
 
 /// An inspection accepts at most a million offers.
@@ -27,7 +28,7 @@ pub(crate) fn check_offer<'a>(
         fault_notice notice_of_offer result
         ≡ first_fit (checks_but_room draft.now points.now faces.now pair accepted) }
     ensures rows { IfOk result (λ r. sheet_of_rows r ≡ sheet_in draft.now points.now faces.now) }
-    ensures accepted { IfOk result (λ _. accepted < 1000000) }
+    ensures few { IfOk result (λ _. accepted < 1000000) }
 {
     let Some(rows) = Rows::of(draft, points, faces) else {
         return Err(OfferFault::TableTooShort);
@@ -41,21 +42,14 @@ pub(crate) fn check_offer<'a>(
     if first == second {
         return Err(OfferFault::SameFace(first));
     }
-    if !has_points(draft.points(), rows.face(first)) {
+    if !has_corners_below(rows.face(first), draft.points() as usize) {
         return Err(OfferFault::NoSuchPoint(first));
     }
-    if !has_points(draft.points(), rows.face(second)) {
+    if !has_corners_below(rows.face(second), draft.points() as usize) {
         return Err(OfferFault::NoSuchPoint(second));
     }
     if accepted >= OFFER_LIMIT {
         return Err(OfferFault::TooManyOffers);
     }
     Ok(rows)
-}
-
-/// Whether each corner of the face is one of so many points.
-fn has_points(points: u16, face: Face) -> bool
-    ensures { result ≡ corners_below points face }
-{
-    face.a < points && face.b < points && face.c < points
 }

@@ -1,6 +1,6 @@
 // The fifteen tests of two faces.
 ghost use Rattle.std.specs.Prelude.{◌≡◌};
-ghost use Rattle.inspection.specs.Pairs.{edges};
+ghost use Rattle.inspection.specs.Pairs.{corners_against, edges};
 ghost use Rattle.inspection.specs.Offerings.{Faces};
 ghost use Rattle.inspection.specs.Sheets.{sheet_of_rows};
 ghost use Rattle.inspection.specs.Tests.{vf_naming, ee_naming};
@@ -13,33 +13,16 @@ use sheet::Face;
 pub(crate) fn vf_tests(rows: Rows<'_>, m: u16, n: u16) -> [VfName; 6]
     ensures { result ≡ vf_naming.tests (sheet_of_rows rows.entry) (Faces m n) }
 {
-    let (f, g) = (rows.face(m), rows.face(n));
-    [
-        VfName {
-            point: f.a,
-            face: n,
-        },
-        VfName {
-            point: f.b,
-            face: n,
-        },
-        VfName {
-            point: f.c,
-            face: n,
-        },
-        VfName {
-            point: g.a,
-            face: m,
-        },
-        VfName {
-            point: g.b,
-            face: m,
-        },
-        VfName {
-            point: g.c,
-            face: m,
-        },
-    ]
+    let [a, b, c] = corners_against(rows.face(m), n);
+    let [p, q, r] = corners_against(rows.face(n), m);
+    [a, b, c, p, q, r]
+}
+
+/// Each corner of a face against the face with this number.
+fn corners_against(f: Face, face: u16) -> [VfName; 3]
+    ensures { result ≡ corners_against f face }
+{
+    [f.a, f.b, f.c].map(|point| VfName { point, face })
 }
 
 /// The edges of the first of two faces against those of the second.

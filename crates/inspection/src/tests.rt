@@ -2,7 +2,7 @@
 ghost use Rattle.std.specs.Prelude.{◌≡◌};
 ghost use Rattle.motion.specs.Laws.{InReach};
 ghost use Rattle.inspection.specs.Sheets.{sheet_of_rows};
-ghost use Rattle.inspection.specs.Tests.{Naming, corners_inside, vf_naming, ee_naming};
+ghost use Rattle.inspection.specs.Tests.{Naming, corners_below, vf_naming, ee_naming};
 
 use crate::entries::Entry;
 use crate::names::{EeName, VfName, is_corner};
@@ -36,7 +36,7 @@ impl TestName for VfName {
     fn is_inside(self, rows: Rows<'_>) -> bool {
         (self.point as usize) < rows.points()
             && (self.face as usize) < rows.faces()
-            && are_inside(rows.face(self.face), rows)
+            && has_corners_below(rows.face(self.face), rows.points())
     }
 
     fn is_shared(self, rows: Rows<'_>) -> bool {
@@ -77,12 +77,11 @@ impl TestName for EeName {
     }
 }
 
-/// Whether each corner of the face is a point of the sheet.
-pub(crate) fn are_inside(face: Face, rows: Rows<'_>) -> bool
-    ensures { result ≡ corners_inside (sheet_of_rows rows.entry) face }
+/// Whether each corner of the face is one of so many points.
+pub(crate) fn has_corners_below(face: Face, points: usize) -> bool
+    ensures { result ≡ corners_below points face }
 {
-    let n = rows.points();
-    (face.a as usize) < n && (face.b as usize) < n && (face.c as usize) < n
+    (face.a as usize) < points && (face.b as usize) < points && (face.c as usize) < points
 }
 
 /// The test of four points of a sheet.

@@ -10,6 +10,7 @@ fn empty(rt: HostRuntime) {
     assert!(rt; list.is_empty());
     assert_eq!(rt; list.free(), 3);
     assert!(rt; list.get(0).is_none());
+    assert!(rt; list.entries().is_empty());
     assert!(rt; !list.holds(&name));
 }
 

@@ -3,6 +3,7 @@ use crate::plans::{crossing, tally};
 use filters::DELIVERED;
 use inspection::{
     Answer, EeName, List, ListKind, OfferFault, OpeningFault, Request, VfName, inspect, offers_in,
+    pair_offers,
 };
 use std::test::Fail;
 
@@ -52,7 +53,12 @@ fn in_any_mix(rt: HostRuntime) -> Result<(), Fail> {
 
 #[test]
 fn of_bytes(rt: HostRuntime) -> Result<(), Fail> {
-    let offers = offers_in(rt.alloc(), &[0, 0, 1, 0, 255, 15, 2, 1, 9, 9, 9])?;
+    let bytes = [0, 0, 1, 0, 255, 15, 2, 1, 9, 9, 9];
+    let mut pairs = pair_offers(&bytes);
+    assert_eq!(rt; pairs.next(), Some(Request::Offer(0, 1)));
+    assert_eq!(rt; pairs.next(), Some(Request::Offer(4095, 258)));
+    assert_eq!(rt; pairs.next(), None);
+    let offers = offers_in(rt.alloc(), &bytes)?;
     assert_eq!(rt; offers.len(), 2);
     assert_eq!(rt;
         offers.as_slice(),

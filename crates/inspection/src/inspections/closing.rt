@@ -5,7 +5,6 @@ ghost use Rattle.inspection.specs.declared.kinds.ListKind.TheVariants.{Vf, Ee};
 
 use super::Inspection;
 use crate::classes::{Counts, Tally};
-use crate::kinds::ListKind;
 use filters::Filter;
 use sheet::Draft;
 
@@ -38,10 +37,7 @@ impl<F> Closed<F> {
         ensures vf { result.vf ≡ tally_in Vf self.now.tallies }
         ensures ee { result.ee ≡ tally_in Ee self.now.tallies }
     {
-        Counts {
-            vf: self.tallies[ListKind::Vf as usize],
-            ee: self.tallies[ListKind::Ee as usize],
-        }
+        Counts::of(&self.tallies)
     }
 
     /// Gives back the draft and the filter.

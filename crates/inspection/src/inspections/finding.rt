@@ -7,7 +7,6 @@ ghost use Rattle.inspection.specs.Claims.{Findings};
 
 use super::Inspection;
 use crate::classes::Counts;
-use crate::kinds::ListKind;
 use crate::lists::List;
 use crate::names::{EeName, VfName};
 use filters::Filter;
@@ -21,9 +20,6 @@ impl<F: Filter> Inspection<F> {
         ensures claim { Findings (F.Filter.struck self.now.filter)
             (state_of self.now vf.now ee.now) }
     {
-        Counts {
-            vf: self.tallies[ListKind::Vf as usize],
-            ee: self.tallies[ListKind::Ee as usize],
-        }
+        Counts::of(&self.tallies)
     }
 }
