@@ -11,7 +11,7 @@ pub struct List<'a, E> {
 }
 
 impl<'a, E: Entry> List<'a, E> {
-    ghost use Rattle.std.specs.Prelude.{◌≡◌, ◌+◌, ◌++◌, ◌==◌, [], slice_get};
+    ghost use Rattle.std.specs.Prelude.{◌≡◌, ◌↔◌, ◌+◌, ◌++◌, [], IsTrue, slice_get};
     ghost use Rattle.inspection.specs.Lists.{contents_of, entries, has, with_entries, without_entries};
 
     /// An empty list over a table.
@@ -37,7 +37,7 @@ impl<'a, E: Entry> List<'a, E> {
 
     /// Whether the list is empty.
     pub fn is_empty(&self) -> bool
-        ensures { result ≡ (length (entries self.now) == 0) }
+        ensures { IsTrue result ↔ (length (entries self.now) ≡ 0) }
     {
         self.len == 0
     }

@@ -1,5 +1,5 @@
 // The checks of an offer.
-ghost use Rattle.std.specs.Prelude.{◌≡◌, ◌<◌, IfOk};
+ghost use Rattle.std.specs.Prelude.{◌≡◌, ◌<◌, IfOk, OnOk};
 ghost use Rattle.sheet.specs.Checks.{first_fit, fault_notice};
 ghost use Rattle.inspection.specs.Faults.{notice_of_offer};
 ghost use Rattle.inspection.specs.Offerings.{Faces};
@@ -28,7 +28,7 @@ pub(crate) fn check_offer<'a>(
         fault_notice notice_of_offer result
         ≡ first_fit (checks_but_room draft.now points.now faces.now pair accepted) }
     ensures rows { IfOk result (λ r. sheet_of_rows r ≡ sheet_in draft.now points.now faces.now) }
-    ensures few { IfOk result (λ _. accepted < 1000000) }
+    ensures few { OnOk result (accepted < 1000000) }
 {
     let Some(rows) = Rows::of(draft, points, faces) else {
         return Err(OfferFault::TableTooShort);

@@ -51,19 +51,16 @@ impl<'a> Rows<'a> {
         ensures value { result ≡ point_at (sheet_of_rows self.entry) i }
         ensures reach { InReach 0 result }
     {
-        if (i as usize) < self.points.len() {
-            return moving(self.points[i as usize]);
+        match self.points.get(i as usize) {
+            Some(point) => moving(*point),
+            None => moving(NOWHERE),
         }
-        moving(NOWHERE)
     }
 
     pub(crate) fn face(self, i: u16) -> Face
         ensures { result ≡ face_at (sheet_of_rows self.entry) i }
     {
-        if (i as usize) < self.faces.len() {
-            return self.faces[i as usize];
-        }
-        NO_FACE
+        self.faces.get(i as usize).copied().unwrap_or(NO_FACE)
     }
 }
 

@@ -1,5 +1,5 @@
 // Offering two faces.
-ghost use Rattle.std.specs.Prelude.{◌≡◌, ◌<◌, ◌||◌, nat_lt, length, IfOk};
+ghost use Rattle.std.specs.Prelude.{◌≡◌, ◌<◌, ◌||◌, nat_lt, length, IfOk, OnOk};
 ghost use Rattle.sheet.specs.Checks.{first_fit, fault_notice};
 ghost use Rattle.inspection.specs.Faults.{notice_of_offer};
 ghost use Rattle.inspection.specs.Tallies.{total};
@@ -83,7 +83,7 @@ impl<F: Filter> Inspection<F> {
         ensures fault { fault_notice notice_of_offer result
             ≡ first_fit (checks_but_room self.now.draft points.now faces.now (Faces first second)
             self.now.accepted) }
-        ensures few { IfOk result (λ _. self.now.accepted < 1000000) }
+        ensures few { OnOk result (self.now.accepted < 1000000) }
         ensures vf { IfOk result (λ c.
             Outcome vf_naming (F.Filter.struck self.now.filter) self.now.depth
             (sheet_in self.now.draft points.now faces.now) (Faces first second)
