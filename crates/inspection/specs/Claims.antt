@@ -1,5 +1,5 @@
 -- The claim: what a run's lists and counts say of every test that its accepted offers hold.
-use Rattle.std.specs.Prelude.{◌≡◌, ◌⊎◌, ◌↔◌, ℕ, ◌+◌, ◌*◌, ◌<◌, ◌≤◌, Bool, true, false, not, ◌&&◌, List, length, count_by}
+use Rattle.std.specs.Prelude.{◌≡◌, ◌⊎◌, ◌↔◌, ℕ, ◌+◌, ◌*◌, ◌<◌, ◌≤◌, Bool, IsTrue, IsFalse, not, ◌&&◌, List, length, count_by}
 use Rattle.std.specs.List.{sum_by}
 use Rattle.sheet.specs.declared.drafts.Draft.{Draft}
 use Rattle.motion.specs.declared.shapes.Shape.{Shape}
@@ -33,19 +33,19 @@ module _
     pub test : E
     pub accepted : At history i offer
     pub holds : At (n.tests sheet offer.what) j test
-    pub same : n.same e test ≡ true
-    pub unshared : n.shared sheet test ≡ false
-    pub passed : struck_at set offer.depth (n.shape sheet test) ≡ false
+    pub same : IsTrue (n.same e test)
+    pub unshared : IsFalse (n.shared sheet test)
+    pub passed : IsFalse (struck_at set offer.depth (n.shape sheet test))
 
   -- what their list says
   pub record ClaimOfKind (es : List E) : Type 0 where
     -- what an accepted offer holds, is not shared and is not listed stays apart for the whole step
     pub apart : (i j : ℕ) (o : Accepted) (e : E) → At history i o → At (n.tests sheet o.what) j e
-        → n.shared sheet e ≡ false → has n.same e es ≡ false → Apart (n.shape sheet e)
+        → IsFalse (n.shared sheet e) → IsFalse (has n.same e es) → Apart (n.shape sheet e)
     -- a test is listed exactly when some accepted offer passed it
-    pub listed : (e : E) → (has n.same e es ≡ true) ↔ ((i : ℕ) × ((j : ℕ) × PassedAt e i j))
+    pub listed : (e : E) → IsTrue (has n.same e es) ↔ ((i : ℕ) × ((j : ℕ) × PassedAt e i j))
     -- it stands there a single time
-    pub once : (k l : ℕ) (x y : E) → At es k x → At es l y → n.same x y ≡ true → k ≡ l
+    pub once : (k l : ℕ) (x y : E) → At es k x → At es l y → IsTrue (n.same x y) → k ≡ l
     -- of two entries the one that stands first was passed before the other ever was
     pub order : (k l : ℕ) (x y : E) → At es k x → At es l y → k < l
         → (i : ℕ) × ((j : ℕ) × (PassedAt x i j
@@ -73,15 +73,15 @@ MatchesOffers history other =
     × (At history k p × SameOffering o.what p.what × (p.depth ≤ o.depth)))
 
 abbrev pub Covers : {E : Type 0} → (E → E → Bool) → List E → List E → Type 0
-Covers {E} same es others = (e : E) → has same e others ≡ true → has same e es ≡ true
+Covers {E} same es others = (e : E) → IsTrue (has same e others) → IsTrue (has same e es)
 
 -- two different faces of the sheet, with their corners among its points
 pub record AreOfSheet (sheet : Sheet) (f g : ℕ) : Type 0 where
   pub first : f < length sheet.faces
   pub second : g < length sheet.faces
   pub two : ¬ (f ≡ g)
-  pub first_corners : corners_inside sheet (face_at sheet f) ≡ true
-  pub second_corners : corners_inside sheet (face_at sheet g) ≡ true
+  pub first_corners : IsTrue (corners_inside sheet (face_at sheet f))
+  pub second_corners : IsTrue (corners_inside sheet (face_at sheet g))
 
 abbrev pub OfSheet : Sheet → Offering → Type 0
 OfSheet sheet (Faces f g) = AreOfSheet sheet f g

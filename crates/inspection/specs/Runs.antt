@@ -1,5 +1,5 @@
 -- What a run of an inspection is: from an opening on, any calls, refused ones included.
-use Rattle.std.specs.Prelude.{◌≡◌, ℕ, ◌≤◌, Bool, false, if◌then◌else◌, List, [], ◌∷◌, ◌++◌, Result, is_ok, Ok, Err, nat_lt}
+use Rattle.std.specs.Prelude.{◌≡◌, ℕ, ◌≤◌, Bool, IsFalse, if◌then◌else◌, List, [], ◌∷◌, ◌++◌, Result, is_ok, Ok, Err, nat_lt}
 use Rattle.sheet.specs.Checks.{Check, first_fit, fault_notice}
 use Rattle.sheet.specs.declared.notices.Layer.TheVariants.{Opening}
 use Rattle.sheet.specs.declared.rows.Point.{Point}
@@ -45,7 +45,7 @@ history_after h o d (Err e) = h
 -- these tables hold the sheet, as far as its counts go
 -- where one is too short they need agree with nothing
 abbrev pub Brings : Draft → List Point → List Face → Sheet → Type 0
-Brings d ps fs s = lacks_rows d ps fs ≡ false → sheet_in d ps fs ≡ s
+Brings d ps fs s = IsFalse (lacks_rows d ps fs) → sheet_in d ps fs ≡ s
 
 -- runs of an inspection of this draft, with a filter of this set, over this sheet
 -- by their accepted offers, and the state that they end in

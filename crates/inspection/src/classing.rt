@@ -64,11 +64,10 @@ impl<'a, F: Filter> Judge<'a, F> {
     ) -> (ArrayVec<E, N>, Tally)
         requires room { length tests.now ≤ N }
         requires few { length tests.now ≤ 9 }
-        ensures entries { entries list.now ++ result.0.items
-            ≡ entries_after (rules_of F.struck E.naming E.same self.now) (entries list.now) tests.now }
-        ensures tally { result.1
-            ≡ tally_after (rules_of F.struck E.naming E.same self.now) (entries list.now) tests.now
-            no_tests }
+        ensures entries { let rules = rules_of F.struck E.naming E.same self.now in
+            entries list.now ++ result.0.items ≡ entries_after rules (entries list.now) tests.now }
+        ensures tally { let rules = rules_of F.struck E.naming E.same self.now in
+            result.1 ≡ tally_after rules (entries list.now) tests.now no_tests }
         ensures total { total result.1 ≡ length tests.now }
     {
         let mut new = ArrayVec::new();
