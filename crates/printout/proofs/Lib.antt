@@ -1,2 +1,4 @@
-pub mod Steps
+pub mod Files
 pub mod Lenders
+pub mod Steps
+pub mod Tables

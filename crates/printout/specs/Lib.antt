@@ -1,2 +1,4 @@
 pub mod Printouts
 pub mod Pairs
+pub mod Reading
+pub mod Plans

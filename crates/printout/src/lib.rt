@@ -2,7 +2,11 @@
 #![tactic(auto)]
 
 mod pairs;
+mod plans;
 mod printouts;
+mod sources;
 
 pub use pairs::inspect_pairs;
+pub use plans::inspect_plan;
 pub use printouts::{Ending, Printout};
+pub use sources::{PlanFile, Source};
