@@ -13,10 +13,11 @@ module _ (set : Shape → Bool) where
   none_at l d t v k h = let w = none-passed set d t (whole-struck set l d t v k (sym h)) in (sym w.0, sym w.1)
 
   -- the whole passed at depth 0
-  pub zero_at : (d : ℕ) (t : Shape) → d ≡ 0 → false ≡ set t → (Some 0 ≡ first_passed set d t) × (Some 0 ≡ last_passed set d t)
-  zero_at d t e h =
-      let w = whole-passed set t (sym h) in
-      (sym w.0 ∙ ap (λ (n : ℕ). first_passed set n t) (sym e), sym w.1 ∙ ap (λ (n : ℕ). last_passed set n t) (sym e))
+  pub first_whole : (d : ℕ) (t : Shape) → d ≡ 0 → set t ≡ false → first_passed set d t ≡ Some 0
+  first_whole d t e h = ap (λ (n : ℕ). first_passed set n t) e ∙ (whole-passed set t h).0
+
+  pub last_whole : (d : ℕ) (t : Shape) → d ≡ 0 → set t ≡ false → last_passed set d t ≡ Some 0
+  last_whole d t e h = ap (λ (n : ℕ). last_passed set n t) e ∙ (whole-passed set t h).1
 
   -- by the halves
   pub first_step : (d : ℕ) (t : Shape) → 0 < d

@@ -43,6 +43,7 @@ impl Test {
 }
 
 /// A point's way in the first half.
+#[tactic(auto, using(crate::proofs::Portions::at_start, crate::proofs::Portions::at_middle))]
 fn first_portion(m: Moving) -> Moving
     requires { InReach 6 m }
     ensures { result ≡ portion 1 0 m }
@@ -54,6 +55,7 @@ fn first_portion(m: Moving) -> Moving
 }
 
 /// A point's way in the last half.
+#[tactic(auto, using(crate::proofs::Portions::at_middle, crate::proofs::Portions::at_end))]
 fn last_portion(m: Moving) -> Moving
     requires { InReach 6 m }
     ensures { result ≡ portion 1 1 m }

@@ -34,6 +34,7 @@ pub(crate) fn dot(u: V3, v: V3) -> i64
     u.x * v.x + u.y * v.y + u.z * v.z
 }
 
+#[tactic(auto, unfolding(motion::specs::Vectors::cross))]
 pub(crate) fn cross(u: V3, v: V3) -> V3
     requires { (Reach (2 ^ 20) u) × (Reach (2 ^ 20) v) }
     ensures { result ≡ cross u v }
