@@ -19,7 +19,7 @@ use Rattle.inspection.specs.Runs.{Accepted, Run}
 abbrev pub Before : ℕ → ℕ → ℕ → ℕ → Type 0
 Before i j k l = (i < k) ⊎ ((i ≡ k) × (j < l))
 
--- of the tests of one kind that the accepted offers hold, how many pass a test of them
+-- of the tests of one kind that the accepted offers hold, how many there are of which p holds
 abbrev pub how_many : {E : Type 0} → Naming E → Sheet → List Accepted → (Accepted → E → Bool) → ℕ
 how_many n sheet history p = sum_by (λ o. count_by (p o) (n.tests sheet o.what)) history
 

@@ -15,9 +15,9 @@ use Rattle.inspection.specs.declared.faults.WindowFault.TheVariants as window
 abbrev pub notice_at : ℕ → Layer → ℕ → Notice
 notice_at n l i = record { number = n; layer = l; first = i; second = 0 }
 
--- a row of the fault table: the layer, the condition, the number of the fault and its place
-abbrev pub refuses : Layer → Bool → ℕ → ℕ → Check
-refuses l b n i = record { fits = b; tells = notice_at n l i }
+-- a row of the fault table: whether it fits, the number of its fault, the layer, and the place
+abbrev pub check : Bool → ℕ → Layer → ℕ → Check
+check b n l i = record { fits = b; tells = notice_at n l i }
 
 abbrev pub notice_of_opening : OpeningFault → Notice
 notice_of_opening (opening.TooDeep d) = notice_at 15 Opening d

@@ -8,7 +8,7 @@ use Rattle.sheet.specs.declared.drafts.Draft.{Draft}
 use Rattle.motion.specs.declared.shapes.Shape.{Shape}
 use Rattle.inspection.specs.declared.classes.Tally.{Tally}
 use Rattle.inspection.specs.declared.faults.OfferFault.{OfferFault}
-use Rattle.inspection.specs.Faults.{refuses, notice_of_offer}
+use Rattle.inspection.specs.Faults.{check, notice_of_offer}
 use Rattle.inspection.specs.Tallies.{no_tests, total}
 use Rattle.inspection.specs.Offerings.{Offering, Faces}
 use Rattle.inspection.specs.Sheets.{Sheet, sheet_in, face_at}
@@ -47,17 +47,19 @@ module _ {E : Type 0} (n : Naming E) (set : Shape → Bool) (d : ℕ) (s : Sheet
 -- all but the last
 abbrev pub checks_but_room : Draft → List Point → List Face → Offering → ℕ → List Check
 checks_but_room d ps fs (Faces f g) accepted =
-    refuses Offer (lacks_rows d ps fs) 16 0 ∷ refuses Offer (nat_le d.faces f) 17 f
-    ∷ refuses Offer (nat_le d.faces g) 17 g ∷ refuses Offer (f == g) 18 f
-    ∷ refuses Offer (not (corners_below d.points (face_at (sheet_in d ps fs) f))) 19 f
-    ∷ refuses Offer (not (corners_below d.points (face_at (sheet_in d ps fs) g))) 19 g
-    ∷ refuses Offer (nat_le offer_limit accepted) 20 0 ∷ []
+    check (lacks_rows d ps fs) 16 Offer 0
+    ∷ check (nat_le d.faces f) 17 Offer f
+    ∷ check (nat_le d.faces g) 17 Offer g
+    ∷ check (f == g) 18 Offer f
+    ∷ check (not (corners_below d.points (face_at (sheet_in d ps fs) f))) 19 Offer f
+    ∷ check (not (corners_below d.points (face_at (sheet_in d ps fs) g))) 19 Offer g
+    ∷ check (nat_le offer_limit accepted) 20 Offer 0 ∷ []
 
 abbrev pub room_check : (Shape → Bool) → Sheet → Offering → State → Check
 room_check set s o st =
     let d = st.core.depth in
     let full = lacks_room vf_naming set d s o st.vf || lacks_room ee_naming set d s o st.ee in
-    refuses Offer full 21 0
+    check full 21 Offer 0
 
 abbrev pub offer_checks : (Shape → Bool) → List Point → List Face → Offering → State → List Check
 offer_checks set ps fs o st =

@@ -8,7 +8,7 @@ use Rattle.sheet.specs.declared.drafts.Draft.{Draft}
 use Rattle.motion.specs.declared.shapes.Shape.{Shape}
 use Rattle.inspection.specs.declared.faults.OpeningFault.{OpeningFault}
 use Rattle.inspection.specs.declared.faults.OfferFault.{OfferFault}
-use Rattle.inspection.specs.Faults.{refuses, notice_of_opening}
+use Rattle.inspection.specs.Faults.{check, notice_of_opening}
 use Rattle.inspection.specs.Offerings.{Offering}
 use Rattle.inspection.specs.Sheets.{Sheet, sheet_in}
 use Rattle.inspection.specs.States.{Core, State, core_at_start, with_depth}
@@ -16,7 +16,7 @@ use Rattle.inspection.specs.Offers.{lacks_rows, OfferStep}
 
 -- ---- openings, and depths set later
 abbrev pub depth_checks : ℕ → List Check
-depth_checks k = refuses Opening (nat_lt 6 k) 15 k ∷ []
+depth_checks k = check (nat_lt 6 k) 15 Opening k ∷ []
 
 -- of this draft, at a depth that is not refused, with emptied lists
 pub record Opened (d : Draft) (s : State) : Type 0 where

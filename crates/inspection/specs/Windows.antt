@@ -7,7 +7,7 @@ use Rattle.sheet.specs.declared.rows.Face.{Face}
 use Rattle.motion.specs.declared.shapes.Shape.{Shape}
 use Rattle.motion.specs.Depths.{window_at}
 use Rattle.inspection.specs.declared.faults.WindowFault.{WindowFault}
-use Rattle.inspection.specs.Faults.{refuses, notice_of_window}
+use Rattle.inspection.specs.Faults.{check, notice_of_window}
 use Rattle.inspection.specs.Sheets.{Sheet, sheet_in}
 use Rattle.inspection.specs.Tests.{Naming}
 use Rattle.inspection.specs.Lists.{Contents}
@@ -33,9 +33,9 @@ module _
 
   abbrev pub window_checks : List Check
   window_checks =
-      refuses Window (lacks_rows c.draft ps fs) 16 0
-      ∷ refuses Window (nat_le (length h.entries) i) 22 i
-      ∷ refuses Window (is_stray (n.inside sheet) (slice_get h.entries i)) 19 i ∷ []
+      check (lacks_rows c.draft ps fs) 16 Window 0
+      ∷ check (nat_le (length h.entries) i) 22 Window i
+      ∷ check (is_stray (n.inside sheet) (slice_get h.entries i)) 19 Window i ∷ []
 
   -- of a filter's set at the depth now set
   pub record WindowAnswer (set : Shape → Bool) (r : Result (Option (ℕ × ℕ)) WindowFault)
