@@ -3,6 +3,7 @@ ghost use Rattle.std.specs.Prelude.{◌≤◌, length};
 
 use crate::entries::{Entry, is_among};
 
+/// A list over a lent table: its entries stand in the first places, the rest of the table is free.
 #[derive(Drop)]
 pub struct List<'a, E> {
     places: &'a mut [E],
@@ -29,6 +30,7 @@ impl<'a, E: Entry> List<'a, E> {
         &self.places[..self.len]
     }
 
+    /// How many entries there are.
     pub fn len(&self) -> usize
         ensures { result ≡ length (entries self.now) }
     {

@@ -44,8 +44,9 @@ impl PairOutcome {
 }
 
 impl<F: Filter> Inspection<F> {
-    /// Offers two faces, by their numbers: each of their fifteen tests is classed and counted, and
-    /// the kept ones are listed. A fault leaves all as it was.
+    /// Offers two faces, by their numbers from 0: each of their fifteen tests is classed and
+    /// counted, and the kept ones are listed. A fault leaves all as it was. `points` and `faces`
+    /// are the sheet's tables, and may have more rows than it.
     pub fn offer(
         &mut self,
         points: &[Point],

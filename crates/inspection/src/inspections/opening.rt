@@ -64,7 +64,7 @@ impl<F: Filter> Inspection<F> {
         })
     }
 
-    /// Sets the depth, at any moment.
+    /// Sets the depth, at any moment. A depth over 6 is refused, and leaves the one that was set.
     pub fn set_depth(&mut self, depth: u8) -> Result<(), OpeningFault>
         ensures step { DepthStep depth (core_of self.old) result (core_of self.new) }
         ensures filter { self.new.filter ≡ self.old.filter }

@@ -17,6 +17,7 @@ use sheet::{Face, Point};
 impl<F: Filter> Inspection<F> {
     /// The first and the last of the 2^depth parts of the step, from 0, that the filter passes of
     /// an entry's test, at the depth now set; none where it strikes each. `entry` counts from 0.
+    /// `points` and `faces` are the sheet's tables, and may have more rows than it.
     pub fn window<E: TestName>(
         &self,
         points: &[Point],
