@@ -1,5 +1,5 @@
 -- A run goes on where a file has no fault, and ends where it has one.
-use Rattle.std.proofs.Common.{◌≡◌, ℕ, List, [], take, Some, None, Option, Ok, Err, Result, IfOk, length, ap, ◌∙◌, subst}
+use Rattle.std.proofs.Common.{◌≡◌, ℕ, List, [], take, Some, None, Option, Ok, Err, Result, IfOk, OnOk, length, ap, ◌∙◌, subst, refl}
 use Rattle.std.proofs.lemmas.List.{length-replicate}
 use Rattle.sheet.specs.Checks.{first_fit}
 use Rattle.sheet.specs.Lines.{numbered}
@@ -12,9 +12,13 @@ use Rattle.step.specs.Laying.{lay_checks, with_ends}
 use Rattle.inspection.specs.Sheets.{nowhere, no_face}
 use Rattle.printout.specs.Printouts.{Printed, finished}
 use Rattle.printout.specs.Pairs.{pairs_in, begun, printed_from, ClaimOfPairs}
-use Rattle.printout.specs.Plans.{empty_points, empty_faces, text_in, record_in, unless_fault, step_fault, points_laid, printed_after_sheet, sheet_fault, draft_read, points_read, faces_read, FromPairs, FromStep, FromPlan}
+use Rattle.printout.specs.Plans.{empty_points, empty_faces, text_in, record_in, unless_fault, step_fault, points_laid, printed_after_sheet, sheet_fault, draft_read, points_read, faces_read, printout_of, FromPairs, FromStep, FromPlan, ClaimOfPlan, file_of}
 use Rattle.printout.specs.declared.sources.PlanFile.{PlanFile}
 use Rattle.printout.specs.declared.sources.PlanFile.TheVariants.{Sheet, Step}
+
+pub ok_if : {X E : Type 0} {P : X → Type 0} {Q : Type 0} (r : Result X E) → ((x : X) → P x → Q) → IfOk r P → OnOk r Q
+ok_if (Ok x) f p = f x p
+ok_if (Err e) f p = tt
 
 pub if_ok : {X E : Type 0} {P Q : X → Type 0} (r : Result X E) → ((x : X) → P x → Q x) → IfOk r P → IfOk r Q
 if_ok (Ok x) f p = f x p
@@ -107,3 +111,37 @@ module _ (gives : PlanFile → List ℕ → Type 0) where
           printed = s.printed ∙ ap (λ o. unless_fault o (printed_after_sheet (draft_read sheet) (points_read sheet) (faces_read sheet) s.step s.pairs)) fault;
           claim = λ none. s.claim;
         }
+
+by_fault : (o : Option Notice) (p q : Printed) → (o ≡ None → p ≡ q) → unless_fault o p ≡ unless_fault o q
+by_fault None p q h = h refl
+by_fault (Some n) p q h = refl
+
+-- where each file gives no bytes but these
+module _ (sheet step pairs : List ℕ) (p : Printed) (r : FromPlan (λ file all. all ≡ file_of sheet step pairs file) p) where
+  module _ (none : sheet_fault sheet ≡ None) where
+    same_step : r.step ≡ step
+    same_step = r.step_given (ap sheet_fault r.sheet_given ∙ none)
+
+    fault_there : (step_fault (draft_read sheet) (points_read sheet) step ≡ None) → step_fault (draft_read r.sheet) (points_read r.sheet) r.step ≡ None
+    fault_there n = (λ i. step_fault (draft_read (r.sheet_given i)) (points_read (r.sheet_given i)) (same_step i)) ∙ n
+
+    same_pairs : step_fault (draft_read sheet) (points_read sheet) step ≡ None → r.pairs ≡ pairs
+    same_pairs n = r.pairs_given (ap sheet_fault r.sheet_given ∙ none) (fault_there n)
+
+  pub printed_of_bytes : p ≡ printout_of sheet step pairs
+  printed_of_bytes =
+      let d = draft_read sheet in
+      let ps = points_read sheet in
+      let fs = faces_read sheet in
+      r.printed ∙ ap (λ b. printout_of b r.step r.pairs) r.sheet_given
+      ∙ by_fault (sheet_fault sheet) (printed_after_sheet d ps fs r.step r.pairs) (printed_after_sheet d ps fs step pairs)
+      (λ none.
+      ap (λ b. printed_after_sheet d ps fs b r.pairs) (same_step none)
+      ∙ by_fault (step_fault d ps step) (printed_from (points_laid d ps step) fs (pairs_in r.pairs) (begun d)) (printed_from (points_laid d ps step) fs (pairs_in pairs) (begun d))
+      (λ n. ap (λ b. printed_from (points_laid d ps step) fs (pairs_in b) (begun d)) (same_pairs none n)))
+
+  pub claim_of_bytes : ClaimOfPlan sheet step pairs
+  claim_of_bytes none n =
+      let C : List ℕ → List ℕ → List ℕ → Type 0 = λ a b c. ClaimOfPairs (draft_read a) (points_laid (draft_read a) (points_read a) b) (faces_read a) (pairs_in c) (begun (draft_read a)) in
+      let claim : C r.sheet r.step r.pairs = r.claim (ap sheet_fault r.sheet_given ∙ none) (fault_there none n) in
+      subst (λ c. C sheet step c) (same_pairs none n) (subst (λ b. C sheet b r.pairs) (same_step none) (subst (λ a. C a r.step r.pairs) r.sheet_given claim))

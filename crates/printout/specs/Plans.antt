@@ -63,6 +63,14 @@ abbrev pub printout_of : List ℕ → List ℕ → List ℕ → Printed
 printout_of sheet step pairs =
     unless_fault (sheet_fault sheet) (printed_after_sheet (draft_read sheet) (points_read sheet) (faces_read sheet) step pairs)
 
+-- the claim of a run that no fault ends
+abbrev pub ClaimOfPlan : List ℕ → List ℕ → List ℕ → Type 0
+ClaimOfPlan sheet step pairs =
+    let d = draft_read sheet in
+    let ps = points_read sheet in
+    sheet_fault sheet ≡ None → step_fault d ps step ≡ None
+    → ClaimOfPairs d (points_laid d ps step) (faces_read sheet) (pairs_in pairs) (begun d)
+
 -- ---- what is printed, and what it claims, where files give bytes; a file after a fault is not read
 module _ (gives : PlanFile → List ℕ → Type 0) where
   pub record FromPairs (d : Draft) (ps : List Point) (fs : List Face) (p : Printed) : Type 0 where
@@ -87,5 +95,10 @@ module _ (gives : PlanFile → List ℕ → Type 0) where
     pub step_given : sheet_fault sheet ≡ None → gives Step step
     pub pairs_given : sheet_fault sheet ≡ None → step_fault (draft_read sheet) (points_read sheet) step ≡ None → gives Pairs pairs
     pub printed : p ≡ printout_of sheet step pairs
-    pub claim : sheet_fault sheet ≡ None → step_fault (draft_read sheet) (points_read sheet) step ≡ None
-        → ClaimOfPairs (draft_read sheet) (points_laid (draft_read sheet) (points_read sheet) step) (faces_read sheet) (pairs_in pairs) (begun (draft_read sheet))
+    pub claim : ClaimOfPlan sheet step pairs
+
+-- the files of a plan that have these bytes
+abbrev pub file_of : List ℕ → List ℕ → List ℕ → PlanFile → List ℕ
+file_of sheet step pairs Sheet = sheet
+file_of sheet step pairs Step = step
+file_of sheet step pairs Pairs = pairs
