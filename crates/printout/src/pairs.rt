@@ -88,7 +88,7 @@ fn refusal_lines(alloc: Global, answers: &[Answer]) -> Result<Vec<u8>, AllocErro
     let mut lines = Vec::new(alloc);
     for answer in answers {
         if let Answer::Offered(Err(fault)) = answer {
-            push_line(alloc, &mut lines, fault.notice())?;
+            push_line(&mut lines, fault.notice())?;
         }
     }
     Ok(lines)
@@ -109,7 +109,7 @@ fn print_report<F: Filter>(
 {
     let len = match report_len(inspection, points, faces, vf, ee) {
         Ok(len) => len,
-        Err(fault) => return ended_by(alloc, lines, fault.notice()),
+        Err(fault) => return ended_by(lines, fault.notice()),
     };
     let mut output = vec![in alloc; 0u8; len]?;
     let Ok(_) = report(inspection, points, faces, vf, ee, output.as_mut_slice()) else {

@@ -28,7 +28,7 @@ pub fn inspect_plan<S: Source>(alloc: Global, source: &S) -> anyhow::Result<Prin
             points.as_mut_slice(),
             faces.as_slice(),
         ),
-        Err(fault) => Ok(ended_by(alloc, Vec::new(alloc), fault.notice())?),
+        Err(fault) => Ok(ended_by(Vec::new(alloc), fault.notice())?),
     }
 }
 
@@ -57,7 +57,7 @@ fn inspect_step<S: Source>(
     let record = source.read(PlanFile::Step, record_limit() + 1)?;
     match lay(&draft, record.as_slice(), points) {
         Ok(()) => read_pairs(alloc, source, draft, points, faces),
-        Err(fault) => Ok(ended_by(alloc, Vec::new(alloc), fault.notice())?),
+        Err(fault) => Ok(ended_by(Vec::new(alloc), fault.notice())?),
     }
 }
 

@@ -3,7 +3,7 @@ ghost use Rattle.std.specs.Prelude.{◌≡◌, ◌++◌, Some, [], IfOk, OnOk};
 ghost use Rattle.printout.specs.Printouts.{printed_by, notice_line, finished};
 
 use sheet::Notice;
-use std::alloc::{AllocError, Global};
+use std::alloc::AllocError;
 
 /// How a run ends.
 #[derive(Clone, Copy, Debug, PartialEq, Eq)]
@@ -22,23 +22,19 @@ pub struct Printout {
 }
 
 /// Adds a fault's line.
-pub(crate) fn push_line(alloc: Global, text: &mut Vec<u8>, notice: Notice) -> Result<(), AllocError>
+pub(crate) fn push_line(text: &mut Vec<u8>, notice: Notice) -> Result<(), AllocError>
     ensures { OnOk result (text.new.items ≡ text.old.items ++ notice_line notice) }
 {
-    let line = format!(in alloc; "{notice}\n")?;
-    text.extend_from_slice(line.as_str().as_bytes())
+    text.extend_from_slice(notice.line().as_str().as_bytes())?;
+    text.extend_from_slice(b"\n")
 }
 
 /// A run that ends with a fault, after some lines.
-pub(crate) fn ended_by(
-    alloc: Global,
-    lines: Vec<u8>,
-    notice: Notice,
-) -> Result<Printout, AllocError>
+pub(crate) fn ended_by(lines: Vec<u8>, notice: Notice) -> Result<Printout, AllocError>
     ensures { IfOk result (λ p. printed_by p ≡ finished lines.items (Some notice) []) }
 {
     let mut text = lines;
-    push_line(alloc, &mut text, notice)?;
+    push_line(&mut text, notice)?;
     Ok(Printout {
         text,
         ending: Ending::Faulty,
