@@ -1,4 +1,4 @@
--- The part of a run after the sheet and the step: the pairs are offered in their order, and all is reported.
+-- The run after the sheet and the step: the pairs are offered in their order, and all is reported.
 use Rattle.std.specs.Prelude.{ℕ, Bool, if◌then◌else◌, List, [], ◌∷◌, ◌++◌, replicate, flat_map, Option, is_some, Err}
 use Rattle.std.specs.Option.{option_to_list}
 use Rattle.sheet.specs.Checks.{first_fit}
@@ -62,9 +62,10 @@ module _ (set : Shape → Bool) (ps : List Point) (fs : List Face) where
   refusal o s = first_fit (offer_checks set ps fs o s)
 
   abbrev pub state_left : Offering → State → State
-  state_left o s = if is_some (refusal o s) then s else state_after set (sheet_in s.core.draft ps fs) o s
+  state_left o s =
+      if is_some (refusal o s) then s else state_after set (sheet_in s.core.draft ps fs) o s
 
-  -- of pairs in their order: why some are refused, those that are accepted, and the state at the end
+  -- of pairs in their order: why some are refused, which are accepted, and the state at the end
   abbrev pub refusals : List Offering → State → List Notice
   refusals [] s = []
   refusals (o ∷ os) s = option_to_list (refusal o s) ++ refusals os (state_left o s)

@@ -1,4 +1,4 @@
--- A whole run: the files of a plan are read in their order, and each is used before the next is read.
+-- A whole run: a plan's files are read in their order, each used before the next is read.
 use Rattle.std.specs.Prelude.{◌≡◌, ℕ, ◌+◌, List, [], take, replicate, Some, None, Option}
 use Rattle.sheet.specs.Checks.{first_fit}
 use Rattle.sheet.specs.Lines.{numbered}
@@ -34,7 +34,7 @@ abbrev pub unless_fault : Option Notice → Printed → Printed
 unless_fault None p = p
 unless_fault (Some n) p = finished [] (Some n) []
 
--- ---- the run after the sheet, over tables that it was read into, by the bytes of the step's file and the pairs' file
+-- ---- the run after the sheet, over its tables, by the bytes of the step's and the pairs' file
 module _ (d : Draft) (ps : List Point) where
   abbrev pub step_fault : List ℕ → Option Notice
   step_fault step = first_fit (lay_checks d.points ps (record_in step))
@@ -61,7 +61,8 @@ faces_read sheet = onto_front (faces_in (numbered (text_in sheet))) empty_faces
 
 abbrev pub printout_of : List ℕ → List ℕ → List ℕ → Printed
 printout_of sheet step pairs =
-    unless_fault (sheet_fault sheet) (printed_after_sheet (draft_read sheet) (points_read sheet) (faces_read sheet) step pairs)
+    unless_fault (sheet_fault sheet)
+    (printed_after_sheet (draft_read sheet) (points_read sheet) (faces_read sheet) step pairs)
 
 -- the claim of a run that no fault ends
 abbrev pub ClaimOfPlan : List ℕ → List ℕ → List ℕ → Type 0
@@ -71,7 +72,7 @@ ClaimOfPlan sheet step pairs =
     sheet_fault sheet ≡ None → step_fault d ps step ≡ None
     → ClaimOfPairs d (points_laid d ps step) (faces_read sheet) (pairs_in pairs) (begun d)
 
--- ---- what is printed, and what it claims, where files give bytes; a file after a fault is not read
+-- ---- what is printed and claimed, where files give bytes; a file after a fault is not read
 module _ (gives : PlanFile → List ℕ → Type 0) where
   pub record FromPairs (d : Draft) (ps : List Point) (fs : List Face) (p : Printed) : Type 0 where
     pub pairs : List ℕ
@@ -85,7 +86,8 @@ module _ (gives : PlanFile → List ℕ → Type 0) where
     pub step_given : gives Step step
     pub pairs_given : step_fault d ps step ≡ None → gives Pairs pairs
     pub printed : p ≡ printed_after_sheet d ps fs step pairs
-    pub claim : step_fault d ps step ≡ None → ClaimOfPairs d (points_laid d ps step) fs (pairs_in pairs) (begun d)
+    pub claim : step_fault d ps step ≡ None
+        → ClaimOfPairs d (points_laid d ps step) fs (pairs_in pairs) (begun d)
 
   pub record FromPlan (p : Printed) : Type 0 where
     pub sheet : List ℕ
@@ -93,7 +95,8 @@ module _ (gives : PlanFile → List ℕ → Type 0) where
     pub pairs : List ℕ
     pub sheet_given : gives Sheet sheet
     pub step_given : sheet_fault sheet ≡ None → gives Step step
-    pub pairs_given : sheet_fault sheet ≡ None → step_fault (draft_read sheet) (points_read sheet) step ≡ None → gives Pairs pairs
+    pub pairs_given : sheet_fault sheet ≡ None
+        → step_fault (draft_read sheet) (points_read sheet) step ≡ None → gives Pairs pairs
     pub printed : p ≡ printout_of sheet step pairs
     pub claim : ClaimOfPlan sheet step pairs
 

@@ -1,4 +1,4 @@
-// The part of a run after the sheet and the step: the pairs are offered in their order, and all is reported.
+// The run after the sheet and the step: the pairs are offered in their order, and all is reported.
 ghost use Rattle.std.specs.Prelude.{◌≡◌, IfOk, OnOk, flat_map};
 ghost use Rattle.motion.specs.Rows.{delivered};
 ghost use Rattle.inspection.specs.States.{state_of, state_at_start};
@@ -20,10 +20,10 @@ const DEPTH: u8 = 2;
 /// For how many entries each list has room.
 const PLACES: usize = 512;
 
-/// Offers each pair of faces that the bytes hold to one inspection: what is printed is a line for each that is refused,
-/// and then the report.
+/// Offers each pair of faces that the bytes hold to one inspection: what is printed is a line for
+/// each that is refused, and then the report.
 ///
-/// Of the pairs that are not refused nobody can name a touch that is not printed: that is the claim in the contract.
+/// Of the pairs that are not refused nobody can name a touch that is not printed: that is `claim`.
 pub fn inspect_pairs(
     alloc: Global,
     draft: Draft,
@@ -31,8 +31,10 @@ pub fn inspect_pairs(
     faces: &[Face],
     pairs: &[u8],
 ) -> Result<Printout, AllocError>
-    ensures printed { IfOk result (λ p. printed_by p ≡ printed_from points.now faces.now (pairs_in pairs.now) (begun draft)) }
-    ensures claim { OnOk result (ClaimOfPairs draft points.now faces.now (pairs_in pairs.now) (begun draft)) }
+    ensures printed { IfOk result (λ p.
+        printed_by p ≡ printed_from points.now faces.now (pairs_in pairs.now) (begun draft)) }
+    ensures claim { OnOk result
+        (ClaimOfPairs draft points.now faces.now (pairs_in pairs.now) (begun draft)) }
 {
     let mut vf_places = [VfName::default(); PLACES];
     let mut ee_places = [EeName::default(); PLACES];
@@ -105,7 +107,8 @@ fn print_report<F: Filter>(
     ee: &List<'_, EeName>,
 ) -> Result<Printout, AllocError>
     ensures { let v = view_of F.Filter.struck inspection.now points.now faces.now in
-        IfOk result (λ p. printed_by p ≡ with_report lines.items v (contents_of vf.now) (contents_of ee.now)) }
+        let made = with_report lines.items v (contents_of vf.now) (contents_of ee.now) in
+        IfOk result (λ p. printed_by p ≡ made) }
 {
     let len = match report_len(inspection, points, faces, vf, ee) {
         Ok(len) => len,

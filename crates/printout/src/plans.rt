@@ -1,4 +1,4 @@
-// A whole run: the files of a plan are read in their order, and each is used before the next is read.
+// A whole run: a plan's files are read in their order, each used before the next is read.
 ghost use Rattle.std.specs.Prelude.{◌≡◌, IfOk};
 ghost use Rattle.sheet.specs.Checks.{first_fit};
 ghost use Rattle.printout.specs.Printouts.{printed_by};
@@ -11,9 +11,11 @@ use sheet::{Draft, FACE_LIMIT, Face, POINT_LIMIT, Point, TEXT_LIMIT, read_sheet}
 use std::alloc::{AllocError, Global};
 use step::{lay, record_limit};
 
-/// Inspects the plan that a source gives. A fault of the sheet or of the step ends the run with its line.
+/// Inspects the plan that a source gives: what is printed, and how the run ends. A fault of the
+/// sheet or of the step ends it with its line.
 ///
-/// Of each file no more is read than tells all: of the sheet and of the step one byte past the longest, of the pairs all.
+/// Of the sheet and of the step one byte is read past the longest that is accepted, of the pairs
+/// all.
 pub fn inspect_plan<S: Source>(alloc: Global, source: &S) -> anyhow::Result<Printout>
     ensures { IfOk result (λ p. FromPlan (S.gives source.now) (printed_by p)) }
 {
@@ -52,7 +54,8 @@ fn inspect_step<S: Source>(
     points: &mut [Point],
     faces: &[Face],
 ) -> anyhow::Result<Printout>
-    ensures { IfOk result (λ p. FromStep (S.gives source.now) draft points.old faces.now (printed_by p)) }
+    ensures { IfOk result (λ p.
+        FromStep (S.gives source.now) draft points.old faces.now (printed_by p)) }
 {
     let record = source.read(PlanFile::Step, record_limit() + 1)?;
     match lay(&draft, record.as_slice(), points) {
@@ -69,7 +72,8 @@ fn read_pairs<S: Source>(
     points: &[Point],
     faces: &[Face],
 ) -> anyhow::Result<Printout>
-    ensures { IfOk result (λ p. FromPairs (S.gives source.now) draft points.now faces.now (printed_by p)) }
+    ensures { IfOk result (λ p.
+        FromPairs (S.gives source.now) draft points.now faces.now (printed_by p)) }
 {
     let pairs = source.read(PlanFile::Pairs, usize::MAX)?;
     Ok(inspect_pairs(alloc, draft, points, faces, pairs.as_slice())?)

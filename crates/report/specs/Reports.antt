@@ -27,7 +27,8 @@ pub record View : Type 0 where
   pub points : List Point
   pub faces : List Face
 
-abbrev pub view_of : {F : Type 0} → (F → Shape → Bool) → Inspection F → List Point → List Face → View
+abbrev pub view_of : {F : Type 0}
+    → (F → Shape → Bool) → Inspection F → List Point → List Face → View
 view_of struck i ps fs = record { set = struck i.filter; core = core_of i; points = ps; faces = fs }
 
 abbrev pub sheet_of : View → Sheet
@@ -37,7 +38,7 @@ sheet_of v = sheet_in v.core.draft v.points v.faces
 abbrev pub lacks_rows_in : View → Bool
 lacks_rows_in v = lacks_rows v.core.draft v.points v.faces
 
--- the entries that have a number, which is below 2^32; an inspection lists no more than nine million
+-- the entries that have a number, which is below 2^32; an inspection lists at most nine million
 unfoldable pub entry_limit : ℕ
 entry_limit = 4294967296
 
@@ -52,7 +53,8 @@ module _ {E : Type 0} (n : Naming E) (l : ListKind) (v : View) where
   -- the entries from number i on
   abbrev pub checks_from : ℕ → List E → List Check
   checks_from i [] = []
-  checks_from i (e ∷ es) = refuses (not (n.inside (sheet_of v) e)) 19 i (place_of l) ∷ checks_from (i + 1) es
+  checks_from i (e ∷ es) =
+      refuses (not (n.inside (sheet_of v) e)) 19 i (place_of l) ∷ checks_from (i + 1) es
 
   abbrev pub entry_checks : Contents E → List Check
   entry_checks h = checks_from 0 (numbered h)
@@ -75,7 +77,9 @@ module _ (v : View) (vf : Contents VfName) (ee : Contents EeName) where
 
   -- whatever the output
   abbrev pub len_checks : List Check
-  len_checks = refuses (lacks_rows_in v) 16 0 0 ∷ (entry_checks vf_naming Vf v vf ++ entry_checks ee_naming Ee v ee)
+  len_checks =
+      refuses (lacks_rows_in v) 16 0 0
+      ∷ (entry_checks vf_naming Vf v vf ++ entry_checks ee_naming Ee v ee)
 
   -- for an output of so many bytes
   abbrev pub report_checks : ℕ → List Check

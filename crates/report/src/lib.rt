@@ -1,4 +1,5 @@
-//! The report of an inspection: its lists, with the windows at the depth now set, and its counts, in lines of text.
+//! The report of an inspection: its lists, with the windows at the depth now set, and its counts,
+//! in lines of text.
 #![tactic(auto)]
 
 mod faults;

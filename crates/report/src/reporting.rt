@@ -12,7 +12,8 @@ use filters::Filter;
 use inspection::{EeName, Inspection, List, VfName, WindowFault};
 use sheet::{Face, Point};
 
-/// Writes what stands on the lists and what was counted into the front of the output, and answers its length.
+/// Writes what stands on the lists and what was counted into the front of the output, and answers
+/// its length.
 ///
 /// Bytes past it are as they were, and on a fault all are.
 pub fn report<F: Filter>(
@@ -24,8 +25,8 @@ pub fn report<F: Filter>(
     output: &mut [u8],
 ) -> Result<usize, ReportFault>
     ensures fault { let v = view_of F.Filter.struck inspection.now points.now faces.now in
-        let checks = report_checks v (contents_of vf.now) (contents_of ee.now) (length output.old) in
-        fault_notice notice_of_report result ≡ first_fit checks }
+        let checks = report_checks v (contents_of vf.now) (contents_of ee.now) in
+        fault_notice notice_of_report result ≡ first_fit (checks (length output.old)) }
     ensures len { let v = view_of F.Filter.struck inspection.now points.now faces.now in
         IfOk result (λ n. n ≡ length (report_text v (contents_of vf.now) (contents_of ee.now))) }
     ensures output { let v = view_of F.Filter.struck inspection.now points.now faces.now in
@@ -55,7 +56,8 @@ pub fn report_len<F: Filter>(
     put(inspection, points, faces, vf, ee, &mut [])
 }
 
-/// Puts the report into the front of the output, if it has room for all of it, and answers how long it is.
+/// Puts the report into the front of the output, if it has room for all of it, and answers how
+/// long it is.
 fn put<F: Filter>(
     inspection: &Inspection<F>,
     points: &[Point],

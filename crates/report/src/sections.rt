@@ -16,7 +16,8 @@ use sheet::{Face, Point};
 // the entries have numbers of 32 bits
 const ENTRY_LIMIT: usize = 4_294_967_296;
 
-/// Puts the lines of a list and of its counts into the front of `out`, if it has room for all of them, and answers how long they are.
+/// Puts the lines of a list and of its counts into the front of `out`, if it has room for all of
+/// them, and answers how long they are.
 pub(crate) fn put_section<F: Filter, E: HasLine>(
     inspection: &Inspection<F>,
     points: &[Point],
@@ -30,11 +31,13 @@ pub(crate) fn put_section<F: Filter, E: HasLine>(
         let checks = entry_checks E.TestName.naming E.HasLine.kind v (contents_of list.now) in
         fault_notice notice_of_report result ≡ first_fit checks }
     ensures len { let v = view_of F.Filter.struck inspection.now points.now faces.now in
-        let text = section E.TestName.naming E.HasLine.kind v E.HasLine.line (contents_of list.now) tally in
+        let contents = contents_of list.now in
+        let text = section E.TestName.naming E.HasLine.kind v E.HasLine.line contents tally in
         IfOk result (λ n. n ≡ length text) }
     ensures limit { IfOk result (λ n. n ≤ 96 * 4294967297) }
     ensures out { let v = view_of F.Filter.struck inspection.now points.now faces.now in
-        let text = section E.TestName.naming E.HasLine.kind v E.HasLine.line (contents_of list.now) tally in
+        let contents = contents_of list.now in
+        let text = section E.TestName.naming E.HasLine.kind v E.HasLine.line contents tally in
         OnOk result (length text ≤ length out.old → out.new ≡ onto_front text out.old) }
 {
     let mut len = 0usize;
@@ -66,9 +69,11 @@ fn line_of<F: Filter, E: HasLine>(
     requires rows { lacks_rows_in (view_of F.Filter.struck inspection.now points.now faces.now) ≡ false }
     requires entry { slice_get (entries list.now) i ≡ Some e }
     ensures fault { let v = view_of F.Filter.struck inspection.now points.now faces.now in
-        fault_notice notice_of_report result ≡ first_fit (checks_from E.TestName.naming E.HasLine.kind v i (e ∷ [])) }
+        let checks = checks_from E.TestName.naming E.HasLine.kind v i (e ∷ []) in
+        fault_notice notice_of_report result ≡ first_fit checks }
     ensures line { let v = view_of F.Filter.struck inspection.now points.now faces.now in
-        IfOk result (λ l. l.bytes ≡ entry_line E.TestName.naming E.HasLine.kind v E.HasLine.line e) }
+        let line = entry_line E.TestName.naming E.HasLine.kind v E.HasLine.line e in
+        IfOk result (λ l. l.bytes ≡ line) }
 {
     match inspection.window(points, faces, list, i) {
         Ok(window) => Ok(e.line(window)),
