@@ -16,16 +16,3 @@ first_fit (c ∷ cs) = if c.fits then Some c.tells else first_fit cs
 abbrev pub fault_notice : {X E : Type 0} → (E → Notice) → Result X E → Option Notice
 fault_notice f (Ok x) = None
 fault_notice f (Err e) = Some (f e)
-
-abbrev pub unless : {X : Type 0} → Option Notice → X → Result X Notice
-unless None x = Ok x
-unless (Some n) x = Err n
-
--- x, where no check fits; else the first that does
-abbrev pub answer : {X : Type 0} → List Check → X → Result X Notice
-answer cs x = unless (first_fit cs) x
-
--- a result with its fault told by number, layer and places
-abbrev pub told : {X E : Type 0} → (E → Notice) → Result X E → Result X Notice
-told f (Ok x) = Ok x
-told f (Err e) = Err (f e)
