@@ -22,7 +22,7 @@ It prints
   EE U V K L FIRST LAST                     the edges from U to V and from K to L may touch
   EE kept N struck N shared N repeated N    how many tests of an edge against an edge there were of each class
 Of each pair that is not refused, what shares no point and is not printed stays apart for the whole step.
-Of a refused pair nothing is entry_from: where a list was full (fault 21), give the refused pairs a run of their own.
+Of a refused pair nothing is said: where a list was full (fault 21), give the refused pairs a run of their own.
 ";
 
 /// What stops the run is told where it is found, so that only the status is left to say.
