@@ -1,10 +1,10 @@
 // A frame, in tables of its own.
-ghost use Rattle.std.specs.Prelude.{◌≡◌, List, ℕ, length, take, IfOk, None};
+ghost use Rattle.std.specs.Prelude.{◌≡◌, ◌+◌, List, ℕ, length, take, IfOk, None};
 ghost use Rattle.sheet.specs.Checks.{first_fit, fault_notice};
 ghost use Rattle.sheet.specs.Faults.{notice_of_sheet};
 ghost use Rattle.sheet.specs.IsSheet.{IsSheet};
 ghost use Rattle.sheet.specs.Lines.{numbered};
-ghost use Rattle.sheet.specs.Sheet.{point_limit, face_limit, sheet_checks, draft_of, points_in, faces_in};
+ghost use Rattle.sheet.specs.Sheet.{text_limit, point_limit, face_limit, sheet_checks, draft_of, points_in, faces_in};
 
 use sheet::{Draft, FACE_LIMIT, Face, POINT_LIMIT, Point, SheetFault, TEXT_LIMIT, read_sheet};
 use std::alloc::{AllocError, Global};
@@ -51,6 +51,12 @@ pub fn deciding_len() -> usize
         ≡ first_fit (sheet_checks text point_limit face_limit) }
     ensures whole { (text : List ℕ) → first_fit (sheet_checks text point_limit face_limit) ≡ None
         → take result text ≡ text }
+{
+    one_past_the_limit()
+}
+
+fn one_past_the_limit() -> usize
+    ensures { result ≡ text_limit + 1 }
 {
     TEXT_LIMIT + 1
 }

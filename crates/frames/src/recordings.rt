@@ -1,7 +1,7 @@
 // What comes of two frames.
 ghost use Rattle.std.specs.Prelude.{◌≡◌, ◌≤◌, length, IfOk, IfSome};
 ghost use Rattle.std.specs.Option.{option_map};
-ghost use Rattle.frames.specs.Recordings.{step_between, record_between, line_between};
+ghost use Rattle.frames.specs.Recordings.{difference_between, step_between, record_between, line_between};
 ghost use Rattle.sheet.specs.Sheet.{point_limit};
 ghost use Rattle.step.specs.Frames.{ending_at};
 ghost use Rattle.step.specs.Record.{record_of};
@@ -11,7 +11,7 @@ use crate::lines::{Line, difference_line, step_line};
 use crate::reading::Frame;
 use sheet::{Draft, Point};
 use std::alloc::{AllocError, Global};
-use step::{compare_frames, end_at, moving, record_limit, write};
+use step::{Difference, compare_frames, end_at, moving, record_limit, write};
 
 /// The line that tells what comes of two frames, and the record of the step between them. Where they differ, there is none.
 #[derive(Drop)]
@@ -30,13 +30,7 @@ pub fn recording_of(alloc: Global, start: Frame, end: &Frame) -> Result<Recordin
     ensures means { IfOk result (λ r.
         IfSome r.bytes (λ v. Step start.points.items v.items (step_between start end.now))) }
 {
-    let difference = compare_frames(
-        &start.draft,
-        start.faces.as_slice(),
-        &end.draft,
-        end.faces.as_slice(),
-    );
-    if let Some(difference) = difference {
+    if let Some(difference) = difference_between(&start, end) {
         return Ok(Recording {
             line: difference_line(difference),
             bytes: None,
@@ -55,6 +49,18 @@ pub fn recording_of(alloc: Global, start: Frame, end: &Frame) -> Result<Recordin
         line,
         bytes: Some(bytes),
     })
+}
+
+/// The first difference between two frames.
+fn difference_between(start: &Frame, end: &Frame) -> Option<Difference>
+    ensures { result ≡ difference_between start.now end.now }
+{
+    compare_frames(
+        &start.draft,
+        start.faces.as_slice(),
+        &end.draft,
+        end.faces.as_slice(),
+    )
 }
 
 /// The points, each with the end at which the same point of a frame stands.

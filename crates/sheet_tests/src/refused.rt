@@ -102,8 +102,9 @@ fn refuses(rt: &impl Abort, heap: Global, text: &str, told: &str) -> Result<(), 
     match read_sheet(text.as_bytes(), &mut tables.points, &mut tables.faces) {
         Ok(_) => panic!(rt; "accepted: {text}"),
         Err(fault) => {
-            let line = fault.notice().to_string(heap)?;
-            assert_eq!(rt; line.as_str(), told, "{text}");
+            let notice = fault.notice();
+            assert_eq!(rt; notice.line().as_str(), told, "{text}");
+            assert_eq!(rt; notice.to_string(heap)?.as_str(), told, "{text}");
         }
     }
     check_marked(rt, &tables, 0, 0, text);

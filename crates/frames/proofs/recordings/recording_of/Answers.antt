@@ -12,5 +12,5 @@ returns-clause-means c =
     let same = same_count start.draft end.draft _ _ (sym c.in_default.ensures) in
     let count : length start.points.items ≡ length end.points.items = sym start.point_count ∙ same ∙ end.point_count in
     let bytes : record_of (step_between start end) ≡ c.in_ok-bytes.bytes.items
-    = rw (← c.with_ends-points.ensures.points, ← c.as_slice-3.ensures.value) (sym c.in_ok-bytes.ensures) in
+    = rw (← c.with_ends-points.ensures.points, ← c.as_slice.ensures.value) (sym c.in_ok-bytes.ensures) in
     (ends_between start.points.items end.points.items count end.is_sheet.resting, bytes)
