@@ -60,7 +60,10 @@ impl<'a> Rows<'a> {
     pub(crate) fn face(self, i: u16) -> Face
         ensures { result ≡ face_at (sheet_of_rows self.entry) i }
     {
-        self.faces.get(i as usize).copied().unwrap_or(NO_FACE)
+        match self.faces.get(i as usize) {
+            Some(face) => *face,
+            None => NO_FACE,
+        }
     }
 }
 
