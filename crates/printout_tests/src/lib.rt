@@ -1,0 +1,5 @@
+//! Tests of the crate `printout` on examples: in a crate of their own, since a crate with tests is proved twice.
+#![tactic(auto)]
+
+#[cfg(test)]
+mod plans;
