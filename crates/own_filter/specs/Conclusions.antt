@@ -1,5 +1,5 @@
--- What a crew concludes from the lists and the counts, after the faces f and g were offered at depth 2
--- and then, the other way round, at depth 3.
+-- What a crew concludes from the lists and the counts, after the faces f and g were offered
+-- at depth 2 and then, the other way round, at depth 3.
 use Rattle.std.specs.Prelude.{◌≡◌, ◌⊎◌, ℕ, ◌*◌, Bool, List, [], ◌∷◌, length}
 use Rattle.std.specs.Bool.{IsFalse}
 use Rattle.motion.specs.declared.shapes.Shape.{Shape}

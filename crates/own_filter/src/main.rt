@@ -1,6 +1,10 @@
 //! An example for those who make a filter of their own: it shows two laws about its set, and then goes where ours go.
 #![tactic(auto)]
 
+ghost use Rattle.std.specs.Prelude.{◌≡◌, ◌+◌, Some, None, if◌then◌else◌, nat_le};
+ghost use Rattle.motion.specs.Depths.{struck_at};
+ghost use Rattle.own_filter.specs.Words.{word_of};
+
 mod by_hand;
 mod lent;
 mod stacked;
@@ -89,7 +93,12 @@ fn tell(rt: &HostRuntime, what: &str, shape: Shape) -> io::Result<()> {
     println!(rt; "{what}: delivered {delivered}, own {own}, both {row}")
 }
 
-fn verdict<F: Filter>(filter: &F, test: &Test) -> &'static str {
+/// What the filter answers of the test at depth 2, in a word.
+fn verdict<F: Filter>(filter: &F, test: &Test) -> &'static str
+    ensures { let t = test.now.shape in
+        let struck = struck_at (F.Filter.struck filter.now) 2 t in
+        result.now ≡ word_of (if nat_le (t.scale + 2) 6 then Some struck else None) }
+{
     match struck_at(filter, test, 2) {
         Some(true) => "struck",
         Some(false) => "passed",
