@@ -1,5 +1,6 @@
--- The pseudo-random numbers.
+-- The pseudo-random numbers, and the checksum.
 use Rattle.std.specs.Prelude.{ℕ, ◌+◌, ◌*◌, ◌/◌, ◌%◌, ◌^◌, Bool, if◌then◌else◌, ℤ, pos, ◌+ℤ◌, ◌-ℤ◌, neg_ℤ, ◌==◌}
+use Rattle.std.specs.Int.Bits.{bit_xor}
 
 -- the state after a draw, and the number that it gives
 abbrev pub next_state : ℕ → ℕ
@@ -19,3 +20,7 @@ beside first n = if first then pos (n % 4096) +ℤ pos 1 else neg_ℤ (pos (n % 
 -- far out, on the one side or the other
 abbrev pub side : ℕ → ℕ → ℤ
 side far n = if n % 2 == 1 then pos far else neg_ℤ (pos far)
+
+-- a checksum, with one more number taken in
+abbrev pub sum_with : ℕ → ℕ → ℕ
+sum_with sum n = (bit_xor sum n * 1099511628211) % 2 ^ 64

@@ -1,6 +1,6 @@
 // Pseudo-random numbers, and a checksum.
 ghost use Rattle.std.specs.Prelude.{◌≡◌};
-ghost use Rattle.verdicts.specs.Draws.{next_state, draw_of, around};
+ghost use Rattle.verdicts.specs.Draws.{next_state, draw_of, around, sum_with};
 
 /// A sequence of numbers that is the same in every run.
 #[derive(Drop)]
@@ -50,17 +50,23 @@ pub struct Sum {
 }
 
 impl Sum {
-    pub(crate) fn new() -> Sum {
+    pub(crate) fn new() -> Sum
+        ensures { result.value ≡ 14695981039346656037 }
+    {
         Sum {
             value: 14695981039346656037,
         }
     }
 
-    pub(crate) fn take(&mut self, v: u64) {
+    pub(crate) fn take(&mut self, v: u64)
+        ensures { self.new.value ≡ sum_with self.old.value v }
+    {
         self.value = (self.value ^ v).wrapping_mul(1099511628211);
     }
 
-    pub(crate) fn value(&self) -> u64 {
+    pub(crate) fn value(&self) -> u64
+        ensures { result ≡ self.now.value }
+    {
         self.value
     }
 }
