@@ -5,7 +5,7 @@ use motion::{Shape, V3};
 use std::process::Abort;
 
 /// Checks whether a test is made of a point at this place and scale, against others at zero.
-fn makes(rt: &impl Abort, v: V3, scale: u8, made: bool) {
+fn check_made(rt: &impl Abort, v: V3, scale: u8, made: bool) {
     let o = resting(at(0, 0, 0));
     let m = resting(v);
     assert_eq!(rt; Test::new(Shape::vf(m, o, o, o, scale)).is_some(), made);
@@ -16,20 +16,20 @@ fn makes(rt: &impl Abort, v: V3, scale: u8, made: bool) {
 
 #[test]
 fn coordinates(rt: HostRuntime) {
-    makes(&rt, at(4096, -4096, 4096), 0, true);
-    makes(&rt, at(4097, 0, 0), 0, false);
-    makes(&rt, at(0, -4097, 0), 0, false);
-    makes(&rt, at(0, 0, 4097), 0, false);
-    makes(&rt, at(4097, 0, 0), 1, true);
-    makes(&rt, at(0, 0, -262144), 6, true);
-    makes(&rt, at(0, 0, -262145), 6, false);
-    makes(&rt, at(i64::MIN, 0, 0), 6, false);
-    makes(&rt, at(0, i64::MAX, 0), 6, false);
+    check_made(&rt, at(4096, -4096, 4096), 0, true);
+    check_made(&rt, at(4097, 0, 0), 0, false);
+    check_made(&rt, at(0, -4097, 0), 0, false);
+    check_made(&rt, at(0, 0, 4097), 0, false);
+    check_made(&rt, at(4097, 0, 0), 1, true);
+    check_made(&rt, at(0, 0, -262144), 6, true);
+    check_made(&rt, at(0, 0, -262145), 6, false);
+    check_made(&rt, at(i64::MIN, 0, 0), 6, false);
+    check_made(&rt, at(0, i64::MAX, 0), 6, false);
 }
 
 #[test]
 fn scales(rt: HostRuntime) {
-    makes(&rt, at(0, 0, 0), 6, true);
-    makes(&rt, at(0, 0, 0), 7, false);
-    makes(&rt, at(0, 0, 0), 255, false);
+    check_made(&rt, at(0, 0, 0), 6, true);
+    check_made(&rt, at(0, 0, 0), 7, false);
+    check_made(&rt, at(0, 0, 0), 255, false);
 }

@@ -8,7 +8,7 @@ use std::process::Abort;
 use std::test::Fail;
 
 /// Checks the control values of a test, and what Box, Slab and Plane answer.
-fn judged(rt: &impl Abort, shape: Shape, g: [i64; 4], by: [bool; 3]) -> Result<(), Fail> {
+fn check_answers(rt: &impl Abort, shape: Shape, g: [i64; 4], by: [bool; 3]) -> Result<(), Fail> {
     let test = test_of(shape)?;
     let found = controls(&test);
     assert_eq!(rt; found.g0, g[0]);
@@ -23,7 +23,7 @@ fn judged(rt: &impl Abort, shape: Shape, g: [i64; 4], by: [bool; 3]) -> Result<(
 }
 
 /// Checks at which depth a test is first struck.
-fn struck_first(rt: &impl Abort, shape: Shape, first: u8) -> Result<(), Fail> {
+fn check_first_depth(rt: &impl Abort, shape: Shape, first: u8) -> Result<(), Fail> {
     let test = test_of(shape)?;
     for depth in 0..7u8 {
         assert!(rt;
@@ -39,15 +39,15 @@ fn struck_first(rt: &impl Abort, shape: Shape, first: u8) -> Result<(), Fail> {
 #[test]
 fn over_a_resting_face(rt: HostRuntime) -> Result<(), Fail> {
     let leaving = over_t(moving(at(1, 1, 1), at(1, 1, 3)));
-    judged(&rt, leaving, [48, 80, 112, 144], [true, true, true])?;
-    struck_first(&rt, leaving, 0)?;
+    check_answers(&rt, leaving, [48, 80, 112, 144], [true, true, true])?;
+    check_first_depth(&rt, leaving, 0)?;
     let crossing = over_t(moving(at(1, 1, 1), at(1, 1, -1)));
-    judged(&rt, crossing, [48, 16, -16, -48], [false, false, false])?;
-    struck_first(&rt, crossing, 7)?;
+    check_answers(&rt, crossing, [48, 16, -16, -48], [false, false, false])?;
+    check_first_depth(&rt, crossing, 7)?;
     let landing = over_t(moving(at(1, 1, 1), at(1, 1, 0)));
-    judged(&rt, landing, [48, 32, 16, 0], [false, false, false])?;
+    check_answers(&rt, landing, [48, 32, 16, 0], [false, false, false])?;
     let beside = over_t(resting(at(9, 9, 0)));
-    judged(&rt, beside, [0, 0, 0, 0], [true, true, false])
+    check_answers(&rt, beside, [0, 0, 0, 0], [true, true, false])
 }
 
 #[test]
@@ -72,7 +72,7 @@ fn on_a_moving_face(rt: HostRuntime) -> Result<(), Fail> {
         moving(at(0, 4, 0), at(0, 4, 10)),
         0,
     );
-    judged(&rt, rising, [48, 48, 48, 48], [false, true, true])?;
+    check_answers(&rt, rising, [48, 48, 48, 48], [false, true, true])?;
     let turning = Shape::vf(
         moving(at(2, 0, 2), at(-2, 0, 0)),
         resting(at(0, 0, 0)),
@@ -80,8 +80,8 @@ fn on_a_moving_face(rt: HostRuntime) -> Result<(), Fail> {
         resting(at(0, 1, 0)),
         0,
     );
-    judged(&rt, turning, [6, 0, 0, 6], [false, false, false])?;
-    struck_first(&rt, turning, 1)
+    check_answers(&rt, turning, [6, 0, 0, 6], [false, false, false])?;
+    check_first_depth(&rt, turning, 1)
 }
 
 #[test]
@@ -93,6 +93,6 @@ fn two_edges(rt: HostRuntime) -> Result<(), Fail> {
         moving(at(0, 2, 1), at(0, 2, -1)),
         0,
     );
-    judged(&rt, sinking, [-48, -16, 16, 48], [false, false, false])?;
-    struck_first(&rt, sinking, 7)
+    check_answers(&rt, sinking, [-48, -16, 16, 48], [false, false, false])?;
+    check_first_depth(&rt, sinking, 7)
 }
