@@ -47,7 +47,8 @@ pub fn read_frame(alloc: Global, text: &[u8]) -> Result<Result<Frame, SheetFault
 
 /// How many bytes of a text decide: its front of that length has the fault of the whole, and without a fault it is the whole.
 pub fn deciding_len() -> usize
-    ensures fault { (text : List ℕ) → first_fit (sheet_checks (take result text) point_limit face_limit)
+    ensures fault { (text : List ℕ)
+        → first_fit (sheet_checks (take result text) point_limit face_limit)
         ≡ first_fit (sheet_checks text point_limit face_limit) }
     ensures whole { (text : List ℕ) → first_fit (sheet_checks text point_limit face_limit) ≡ None
         → take result text ≡ text }

@@ -35,7 +35,8 @@ pub fn lay(draft: &Draft, bytes: &[u8], points: &mut [Point]) -> Result<(), Step
 /// Lays a record onto all rows of a table.
 fn lay_rows(bytes: &[u8], rows: &mut [Point]) -> Result<(), StepFault>
     requires { length rows.old ≤ 65535 }
-    ensures fault { fault_notice notice_of_step result ≡ first_fit (rows_checks 0 rows.old bytes.now) }
+    ensures fault { fault_notice notice_of_step result
+        ≡ first_fit (rows_checks 0 rows.old bytes.now) }
     ensures rows { rows.new ≡ (if is_ok result then with_ends rows.old bytes.now else rows.old) }
 {
     survey(bytes, rows)?;
