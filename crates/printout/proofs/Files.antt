@@ -10,8 +10,8 @@ use Rattle.sheet.specs.declared.rows.Point.{Point}
 use Rattle.sheet.specs.declared.rows.Face.{Face}
 use Rattle.step.specs.Laying.{lay_checks, with_ends}
 use Rattle.inspection.specs.Sheets.{nowhere, no_face}
-use Rattle.printout.specs.Printouts.{Printed, finished}
-use Rattle.printout.specs.Pairs.{pairs_in, begun, printed_from, ClaimOfPairs}
+use Rattle.printout.specs.Printouts.{Printed, lines_then}
+use Rattle.printout.specs.Pairs.{pairs_in, first_state, printed_from, ClaimOfPairs}
 use Rattle.printout.specs.Plans.{empty_points, empty_faces, text_in, record_in, unless_fault, step_fault, points_laid, printed_after_sheet, sheet_fault, draft_read, points_read, faces_read, printout_of, FromPairs, FromStep, FromPlan, ClaimOfPlan, file_of}
 use Rattle.printout.specs.declared.sources.PlanFile.{PlanFile}
 use Rattle.printout.specs.declared.sources.PlanFile.TheVariants.{Sheet, Step}
@@ -44,7 +44,7 @@ faces_many = length-replicate face_limit no_face
 
 module _ (gives : PlanFile → List ℕ → Type 0) where
   module _ (d : Draft) (ps : List Point) (fs : List Face) (p : Printed) (step bytes : List ℕ) (given : gives Step step) (is : bytes ≡ record_in step) where
-    pub step_refused : (n : Notice) → Some n ≡ first_fit (lay_checks d.points ps bytes) → p ≡ finished [] (Some n) [] → FromStep gives d ps fs p
+    pub step_refused : (n : Notice) → Some n ≡ first_fit (lay_checks d.points ps bytes) → p ≡ lines_then [] (Some n) [] → FromStep gives d ps fs p
     step_refused n e f =
         let fault : Some n ≡ step_fault d ps step = e ∙ ap (λ b. first_fit (lay_checks d.points ps b)) is in
         record {
@@ -52,7 +52,7 @@ module _ (gives : PlanFile → List ℕ → Type 0) where
           pairs = [];
           step_given = given;
           pairs_given = λ none. never n (step_fault d ps step) fault none;
-          printed = f ∙ ap (λ o. unless_fault o (printed_from (points_laid d ps step) fs (pairs_in []) (begun d))) fault;
+          printed = f ∙ ap (λ o. unless_fault o (printed_from (points_laid d ps step) fs (pairs_in []) (first_state d))) fault;
           claim = λ none. never n (step_fault d ps step) fault none;
         }
 
@@ -67,16 +67,16 @@ module _ (gives : PlanFile → List ℕ → Type 0) where
           step_given = given;
           pairs_given = λ none. r.pairs_given;
           printed =
-              r.printed ∙ ap (λ q. printed_from q fs (pairs_in r.pairs) (begun d)) same
-              ∙ ap (λ o. unless_fault o (printed_from (points_laid d ps step) fs (pairs_in r.pairs) (begun d))) fault;
-          claim = λ none. subst (λ q. ClaimOfPairs d q fs (pairs_in r.pairs) (begun d)) same r.claim;
+              r.printed ∙ ap (λ q. printed_from q fs (pairs_in r.pairs) (first_state d)) same
+              ∙ ap (λ o. unless_fault o (printed_from (points_laid d ps step) fs (pairs_in r.pairs) (first_state d))) fault;
+          claim = λ none. subst (λ q. ClaimOfPairs d q fs (pairs_in r.pairs) (first_state d)) same r.claim;
         }
 
   module _ (p : Printed) (sheet bytes : List ℕ) (given : gives Sheet sheet) (is : bytes ≡ text_in sheet) (m n : ℕ) (points : m ≡ point_limit) (faces : n ≡ face_limit) where
     same_fault : first_fit (sheet_checks bytes m n) ≡ sheet_fault sheet
     same_fault = λ i. first_fit (sheet_checks (is i) (points i) (faces i))
 
-    pub sheet_refused : (x : Notice) → Some x ≡ first_fit (sheet_checks bytes m n) → p ≡ finished [] (Some x) [] → FromPlan gives p
+    pub sheet_refused : (x : Notice) → Some x ≡ first_fit (sheet_checks bytes m n) → p ≡ lines_then [] (Some x) [] → FromPlan gives p
     sheet_refused x e f =
         let fault : Some x ≡ sheet_fault sheet = e ∙ same_fault in
         record {
@@ -137,11 +137,11 @@ module _ (sheet step pairs : List ℕ) (p : Printed) (r : FromPlan (λ file all.
       ∙ by_fault (sheet_fault sheet) (printed_after_sheet d ps fs r.step r.pairs) (printed_after_sheet d ps fs step pairs)
       (λ none.
       ap (λ b. printed_after_sheet d ps fs b r.pairs) (same_step none)
-      ∙ by_fault (step_fault d ps step) (printed_from (points_laid d ps step) fs (pairs_in r.pairs) (begun d)) (printed_from (points_laid d ps step) fs (pairs_in pairs) (begun d))
-      (λ n. ap (λ b. printed_from (points_laid d ps step) fs (pairs_in b) (begun d)) (same_pairs none n)))
+      ∙ by_fault (step_fault d ps step) (printed_from (points_laid d ps step) fs (pairs_in r.pairs) (first_state d)) (printed_from (points_laid d ps step) fs (pairs_in pairs) (first_state d))
+      (λ n. ap (λ b. printed_from (points_laid d ps step) fs (pairs_in b) (first_state d)) (same_pairs none n)))
 
   pub claim_of_bytes : ClaimOfPlan sheet step pairs
   claim_of_bytes none n =
-      let C : List ℕ → List ℕ → List ℕ → Type 0 = λ a b c. ClaimOfPairs (draft_read a) (points_laid (draft_read a) (points_read a) b) (faces_read a) (pairs_in c) (begun (draft_read a)) in
+      let C : List ℕ → List ℕ → List ℕ → Type 0 = λ a b c. ClaimOfPairs (draft_read a) (points_laid (draft_read a) (points_read a) b) (faces_read a) (pairs_in c) (first_state (draft_read a)) in
       let claim : C r.sheet r.step r.pairs = r.claim (ap sheet_fault r.sheet_given ∙ none) (fault_there none n) in
       subst (λ c. C sheet step c) (same_pairs none n) (subst (λ b. C sheet b r.pairs) (same_step none) (subst (λ a. C a r.step r.pairs) r.sheet_given claim))

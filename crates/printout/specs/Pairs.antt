@@ -49,12 +49,12 @@ no_vf = record { point = 0; face = 0 }
 abbrev pub no_ee : EeName
 no_ee = record { u = 0; v = 0; k = 0; l = 0 }
 
-abbrev pub room : {E : Type 0} → E → Contents E
-room e = record { entries = []; rest = replicate places e; lender = 0 }
+abbrev pub free_list : {E : Type 0} → E → Contents E
+free_list e = record { entries = []; rest = replicate places e; lender = 0 }
 
 -- an inspection of a draft that is just opened
-abbrev pub begun : Draft → State
-begun d = state_at_start d depth (room no_vf) (room no_ee)
+abbrev pub first_state : Draft → State
+first_state d = state_at_start d depth (free_list no_vf) (free_list no_ee)
 
 module _ (set : Shape → Bool) (ps : List Point) (fs : List Face) where
   -- why a pair is refused, if it is, and the state that it leaves

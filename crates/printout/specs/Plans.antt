@@ -10,8 +10,8 @@ use Rattle.sheet.specs.declared.rows.Face.{Face}
 use Rattle.step.specs.Laying.{lay_checks, with_ends}
 use Rattle.step.specs.Limit.{record_limit}
 use Rattle.inspection.specs.Sheets.{nowhere, no_face}
-use Rattle.printout.specs.Printouts.{Printed, finished}
-use Rattle.printout.specs.Pairs.{pairs_in, begun, printed_from, ClaimOfPairs}
+use Rattle.printout.specs.Printouts.{Printed, lines_then}
+use Rattle.printout.specs.Pairs.{pairs_in, first_state, printed_from, ClaimOfPairs}
 use Rattle.printout.specs.declared.sources.PlanFile.{PlanFile}
 use Rattle.printout.specs.declared.sources.PlanFile.TheVariants.{Sheet, Step, Pairs}
 
@@ -32,7 +32,7 @@ record_in step = take (record_limit + 1) step
 -- a fault ends the run with its line; where there is none it goes on
 abbrev pub unless_fault : Option Notice → Printed → Printed
 unless_fault None p = p
-unless_fault (Some n) p = finished [] (Some n) []
+unless_fault (Some n) p = lines_then [] (Some n) []
 
 -- ---- the run after the sheet, over its tables, by the bytes of the step's and the pairs' file
 module _ (d : Draft) (ps : List Point) where
@@ -44,7 +44,8 @@ module _ (d : Draft) (ps : List Point) where
 
   abbrev pub printed_after_sheet : List Face → List ℕ → List ℕ → Printed
   printed_after_sheet fs step pairs =
-      unless_fault (step_fault step) (printed_from (points_laid step) fs (pairs_in pairs) (begun d))
+      unless_fault (step_fault step)
+      (printed_from (points_laid step) fs (pairs_in pairs) (first_state d))
 
 -- ---- the whole run, by the bytes of the three files
 abbrev pub sheet_fault : List ℕ → Option Notice
@@ -70,15 +71,15 @@ ClaimOfPlan sheet step pairs =
     let d = draft_read sheet in
     let ps = points_read sheet in
     sheet_fault sheet ≡ None → step_fault d ps step ≡ None
-    → ClaimOfPairs d (points_laid d ps step) (faces_read sheet) (pairs_in pairs) (begun d)
+    → ClaimOfPairs d (points_laid d ps step) (faces_read sheet) (pairs_in pairs) (first_state d)
 
 -- ---- what is printed and claimed, where files give bytes; a file after a fault is not read
 module _ (gives : PlanFile → List ℕ → Type 0) where
   pub record FromPairs (d : Draft) (ps : List Point) (fs : List Face) (p : Printed) : Type 0 where
     pub pairs : List ℕ
     pub pairs_given : gives Pairs pairs
-    pub printed : p ≡ printed_from ps fs (pairs_in pairs) (begun d)
-    pub claim : ClaimOfPairs d ps fs (pairs_in pairs) (begun d)
+    pub printed : p ≡ printed_from ps fs (pairs_in pairs) (first_state d)
+    pub claim : ClaimOfPairs d ps fs (pairs_in pairs) (first_state d)
 
   pub record FromStep (d : Draft) (ps : List Point) (fs : List Face) (p : Printed) : Type 0 where
     pub step : List ℕ
@@ -87,7 +88,7 @@ module _ (gives : PlanFile → List ℕ → Type 0) where
     pub pairs_given : step_fault d ps step ≡ None → gives Pairs pairs
     pub printed : p ≡ printed_after_sheet d ps fs step pairs
     pub claim : step_fault d ps step ≡ None
-        → ClaimOfPairs d (points_laid d ps step) fs (pairs_in pairs) (begun d)
+        → ClaimOfPairs d (points_laid d ps step) fs (pairs_in pairs) (first_state d)
 
   pub record FromPlan (p : Printed) : Type 0 where
     pub sheet : List ℕ

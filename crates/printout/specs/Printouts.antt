@@ -22,9 +22,9 @@ abbrev pub notice_line : Notice → List ℕ
 notice_line n = fault_line n ++ codes "\n"
 
 -- some lines, and then a text, or the line of the fault that ends the run
-abbrev pub finished : List ℕ → Option Notice → List ℕ → Printed
-finished lines None text = record { text = lines ++ text; ending = Complete }
-finished lines (Some n) text = record { text = lines ++ notice_line n; ending = Faulty }
+abbrev pub lines_then : List ℕ → Option Notice → List ℕ → Printed
+lines_then lines None text = record { text = lines ++ text; ending = Complete }
+lines_then lines (Some n) text = record { text = lines ++ notice_line n; ending = Faulty }
 
 abbrev pub with_report : List ℕ → View → Contents VfName → Contents EeName → Printed
-with_report lines v vf ee = finished lines (first_fit (len_checks v vf ee)) (report_text v vf ee)
+with_report lines v vf ee = lines_then lines (first_fit (len_checks v vf ee)) (report_text v vf ee)

@@ -5,9 +5,9 @@ ghost use Rattle.inspection.specs.States.{state_of, state_at_start};
 ghost use Rattle.inspection.specs.Lists.{contents_of};
 ghost use Rattle.report.specs.Reports.{view_of};
 ghost use Rattle.printout.specs.Printouts.{printed_by, notice_line, with_report};
-ghost use Rattle.printout.specs.Pairs.{depth, pairs_in, begun, refusals, state_at_end, ClaimOfPairs, refusal_line, printed_from};
+ghost use Rattle.printout.specs.Pairs.{depth, pairs_in, first_state, refusals, state_at_end, ClaimOfPairs, refusal_line, printed_from};
 
-use crate::printouts::{Ending, Printout, ended_by, push_line};
+use crate::printouts::{Ending, Printout, fault_printout, push_line};
 use filters::{Delivered, Filter, delivered_filter};
 use inspection::{Answer, EeName, Inspection, List, VfName, inspect, offers_in};
 use report::{report, report_len};
@@ -32,9 +32,9 @@ pub fn inspect_pairs(
     pairs: &[u8],
 ) -> Result<Printout, AllocError>
     ensures printed { IfOk result (λ p.
-        printed_by p ≡ printed_from points.now faces.now (pairs_in pairs.now) (begun draft)) }
+        printed_by p ≡ printed_from points.now faces.now (pairs_in pairs.now) (first_state draft)) }
     ensures claim { OnOk result
-        (ClaimOfPairs draft points.now faces.now (pairs_in pairs.now) (begun draft)) }
+        (ClaimOfPairs draft points.now faces.now (pairs_in pairs.now) (first_state draft)) }
 {
     let mut vf_places = [VfName::default(); PLACES];
     let mut ee_places = [EeName::default(); PLACES];
@@ -55,14 +55,14 @@ fn offer_pairs(
     pairs: &[u8],
 ) -> Result<(Inspection<Delivered>, Vec<u8>), AllocError>
     ensures set { IfOk result (λ r. ⟦<Delivered as Filter>⟧.struck r.0.filter ≡ delivered) }
-    ensures lines { let start = state_at_start draft depth (contents_of vf.old) (contents_of ee.old) in
-        let refused = refusals delivered points.now faces.now (pairs_in pairs.now) start in
+    ensures lines { let s = state_at_start draft depth (contents_of vf.old) (contents_of ee.old) in
+        let refused = refusals delivered points.now faces.now (pairs_in pairs.now) s in
         IfOk result (λ r. r.1.items ≡ flat_map notice_line refused) }
-    ensures end { let start = state_at_start draft depth (contents_of vf.old) (contents_of ee.old) in
-        let end = state_at_end delivered points.now faces.now (pairs_in pairs.now) start in
+    ensures end { let s = state_at_start draft depth (contents_of vf.old) (contents_of ee.old) in
+        let end = state_at_end delivered points.now faces.now (pairs_in pairs.now) s in
         IfOk result (λ r. state_of r.0 vf.new ee.new ≡ end) }
-    ensures claim { let start = state_at_start draft depth (contents_of vf.old) (contents_of ee.old) in
-        OnOk result (ClaimOfPairs draft points.now faces.now (pairs_in pairs.now) start) }
+    ensures claim { let s = state_at_start draft depth (contents_of vf.old) (contents_of ee.old) in
+        OnOk result (ClaimOfPairs draft points.now faces.now (pairs_in pairs.now) s) }
 {
     let offers = offers_in(alloc, pairs)?;
     let mut answers = vec![in alloc; Answer::DepthSet(Ok(())); offers.len()]?;
@@ -112,7 +112,7 @@ fn print_report<F: Filter>(
 {
     let len = match report_len(inspection, points, faces, vf, ee) {
         Ok(len) => len,
-        Err(fault) => return ended_by(lines, fault.notice()),
+        Err(fault) => return fault_printout(lines, fault.notice()),
     };
     let mut output = vec![in alloc; 0u8; len]?;
     let Ok(_) = report(inspection, points, faces, vf, ee, output.as_mut_slice()) else {

@@ -5,7 +5,7 @@ ghost use Rattle.printout.specs.Printouts.{printed_by};
 ghost use Rattle.printout.specs.Plans.{empty_points, empty_faces, FromPairs, FromStep, FromPlan};
 
 use crate::pairs::inspect_pairs;
-use crate::printouts::{Printout, ended_by};
+use crate::printouts::{Printout, fault_printout};
 use crate::sources::{PlanFile, Source};
 use sheet::{Draft, FACE_LIMIT, Face, POINT_LIMIT, Point, TEXT_LIMIT, read_sheet};
 use std::alloc::{AllocError, Global};
@@ -30,7 +30,7 @@ pub fn inspect_plan<S: Source>(alloc: Global, source: &S) -> anyhow::Result<Prin
             points.as_mut_slice(),
             faces.as_slice(),
         ),
-        Err(fault) => Ok(ended_by(Vec::new(alloc), fault.notice())?),
+        Err(fault) => Ok(fault_printout(Vec::new(alloc), fault.notice())?),
     }
 }
 
@@ -60,7 +60,7 @@ fn inspect_step<S: Source>(
     let record = source.read(PlanFile::Step, record_limit() + 1)?;
     match lay(&draft, record.as_slice(), points) {
         Ok(()) => read_pairs(alloc, source, draft, points, faces),
-        Err(fault) => Ok(ended_by(Vec::new(alloc), fault.notice())?),
+        Err(fault) => Ok(fault_printout(Vec::new(alloc), fault.notice())?),
     }
 }
 

@@ -1,6 +1,6 @@
 // What a run prints, and how it ends.
 ghost use Rattle.std.specs.Prelude.{◌≡◌, ◌++◌, Some, [], IfOk, OnOk};
-ghost use Rattle.printout.specs.Printouts.{printed_by, notice_line, finished};
+ghost use Rattle.printout.specs.Printouts.{printed_by, notice_line, lines_then};
 
 use sheet::Notice;
 use std::alloc::AllocError;
@@ -30,8 +30,8 @@ pub(crate) fn push_line(text: &mut Vec<u8>, notice: Notice) -> Result<(), AllocE
 }
 
 /// A run that ends with a fault, after some lines.
-pub(crate) fn ended_by(lines: Vec<u8>, notice: Notice) -> Result<Printout, AllocError>
-    ensures { IfOk result (λ p. printed_by p ≡ finished lines.items (Some notice) []) }
+pub(crate) fn fault_printout(lines: Vec<u8>, notice: Notice) -> Result<Printout, AllocError>
+    ensures { IfOk result (λ p. printed_by p ≡ lines_then lines.items (Some notice) []) }
 {
     let mut text = lines;
     push_line(&mut text, notice)?;

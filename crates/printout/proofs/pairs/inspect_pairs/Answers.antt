@@ -5,7 +5,7 @@ use Rattle.inspection.specs.States.{State, state_of, state_at_start}
 use Rattle.inspection.specs.declared.names.VfName.{VfName}
 use Rattle.inspection.specs.declared.names.EeName.{EeName}
 use Rattle.printout.specs.Printouts.{Printed, printed_by, with_report}
-use Rattle.printout.specs.Pairs.{depth, places, no_vf, no_ee, pairs_in, begun, printed_from, ClaimOfPairs}
+use Rattle.printout.specs.Pairs.{depth, places, no_vf, no_ee, pairs_in, first_state, printed_from, ClaimOfPairs}
 use Rattle.printout.proofs.Lenders.{lent, empty_over, on_ok, printed-lent, claim_of_pairs-lent}
 use Rattle.printout.proofs.pairs.inspect_pairs.Goals as goal
 
@@ -24,7 +24,7 @@ returns c =
     let ee_same : c.default-ee_places.result ≡ no_ee = λ i. record { u = ee_default.0 i; v = ee_default.1.0 i; k = ee_default.1.1.0 i; l = ee_default.1.1.1 i } in
     let vf_is : vf ≡ record { entries = []; rest = replicate places no_vf; lender = vf.lender } = empty_over vf _ (replicate places no_vf) _ c.new-vf.ensures (ap (replicate places) vf_same) in
     let ee_is : ee ≡ record { entries = []; rest = replicate places no_ee; lender = ee.lender } = empty_over ee _ (replicate places no_ee) _ c.new-ee.ensures (ap (replicate places) ee_same) in
-    let start : state_at_start d depth vf ee ≡ lent vf.lender ee.lender (begun d) = λ i. state_at_start d depth (vf_is i) (ee_is i) in
+    let start : state_at_start d depth vf ee ≡ lent vf.lender ee.lender (first_state d) = λ i. state_at_start d depth (vf_is i) (ee_is i) in
     let end = c.in_ok-inspection.ensures.end in
     let set = c.in_ok-inspection.ensures.set in
     let lines = c.in_ok-inspection.ensures.lines in
@@ -33,9 +33,9 @@ returns c =
     record {
       printed =
           subst (λ (p : Printed). IfOk c.print_report.result (λ r. printed_by r ≡ p))
-          (made ∙ ap (printed_from ps fs pairs) start ∙ printed-lent ps fs vf.lender ee.lender pairs (begun d))
+          (made ∙ ap (printed_from ps fs pairs) start ∙ printed-lent ps fs vf.lender ee.lender pairs (first_state d))
           c.print_report.ensures;
       claim =
           on_ok c.print_report.result
-          (claim_of_pairs-lent ps fs vf.lender ee.lender pairs (begun d) d (subst (λ (s : State). ClaimOfPairs d ps fs pairs s) start c.in_ok-inspection.ensures.claim));
+          (claim_of_pairs-lent ps fs vf.lender ee.lender pairs (first_state d) d (subst (λ (s : State). ClaimOfPairs d ps fs pairs s) start c.in_ok-inspection.ensures.claim));
     }

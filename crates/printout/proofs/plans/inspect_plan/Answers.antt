@@ -2,7 +2,7 @@ use Rattle.std.proofs.Common.{◌≡◌, [], Some, length, ap, ◌∙◌, arith}
 use Rattle.std.proofs.lemmas.List.{take_at}
 use Rattle.sheet.specs.Lines.{numbered}
 use Rattle.sheet.specs.Sheet.{points_in, faces_in, onto_front}
-use Rattle.printout.specs.Printouts.{printed_by, finished}
+use Rattle.printout.specs.Printouts.{printed_by, lines_then}
 use Rattle.printout.specs.Plans.{text_in, empty_points, empty_faces}
 use Rattle.printout.proofs.Files.{if_ok, points_many, faces_many, sheet_refused, sheet_accepted}
 use Rattle.printout.proofs.plans.inspect_plan.Goals as goal
@@ -40,6 +40,6 @@ returns g c =
     let is : bytes ≡ text_in read.0 = c.as_slice.ensures.value ∙ read.1.1 in
     let points : c.as_mut_slice.result.now ≡ empty_points = c.as_mut_slice.ensures.value ∙ c.in_ok-points.ensures in
     let faces : c.as_mut_slice-2.result.now ≡ empty_faces = c.as_mut_slice-2.ensures.value ∙ c.in_ok-faces.ensures in
-    let r = c.in_ok-ended_by-in-Err in
-    let told = r.ensures ∙ (λ i. finished (c.new.ensures.items i) (Some (c.notice.ensures i)) []) in
+    let r = c.in_ok-fault_printout-in-Err in
+    let told = r.ensures ∙ (λ i. lines_then (c.new.ensures.items i) (Some (c.notice.ensures i)) []) in
     sheet_refused gives (printed_by r.field-0) read.0 bytes read.1.0 is _ _ (ap length points ∙ points_many) (ap length faces ∙ faces_many) _ c.in-Err.ensures.fault told

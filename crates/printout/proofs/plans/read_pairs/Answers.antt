@@ -1,6 +1,6 @@
 use Rattle.std.proofs.Common.{◌≡◌, ℕ, List, length, take, ap, ◌∙◌, subst, arith}
 use Rattle.std.proofs.lemmas.List.{take_all, length-take}
-use Rattle.printout.specs.Pairs.{pairs_in, begun, printed_from, ClaimOfPairs}
+use Rattle.printout.specs.Pairs.{pairs_in, first_state, printed_from, ClaimOfPairs}
 use Rattle.printout.proofs.plans.read_pairs.Goals as goal
 
 pub returns : goal.returns
@@ -15,6 +15,6 @@ returns g c =
     record {
       pairs = read.0;
       pairs_given = read.1.0;
-      printed = c.in_ok-inspect_pairs.ensures.printed ∙ ap (λ (b : List ℕ). printed_from ps fs (pairs_in b) (begun d)) whole;
-      claim = subst (λ (b : List ℕ). ClaimOfPairs d ps fs (pairs_in b) (begun d)) whole c.in_ok-inspect_pairs.ensures.claim;
+      printed = c.in_ok-inspect_pairs.ensures.printed ∙ ap (λ (b : List ℕ). printed_from ps fs (pairs_in b) (first_state d)) whole;
+      claim = subst (λ (b : List ℕ). ClaimOfPairs d ps fs (pairs_in b) (first_state d)) whole c.in_ok-inspect_pairs.ensures.claim;
     }
