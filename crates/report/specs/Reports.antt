@@ -45,8 +45,8 @@ entry_limit = 4294967296
 abbrev pub numbered : {E : Type 0} → Contents E → List E
 numbered h = take entry_limit h.entries
 
-abbrev pub refuses : Bool → ℕ → ℕ → ℕ → Check
-refuses b number first second = record { fits = b; tells = notice_at number first second }
+abbrev pub check : Bool → ℕ → ℕ → ℕ → Check
+check b number first second = record { fits = b; tells = notice_at number first second }
 
 -- ---- of a list: what its entries name, and which list it is
 module _ {E : Type 0} (n : Naming E) (l : ListKind) (v : View) where
@@ -54,7 +54,7 @@ module _ {E : Type 0} (n : Naming E) (l : ListKind) (v : View) where
   abbrev pub checks_from : ℕ → List E → List Check
   checks_from i [] = []
   checks_from i (e ∷ es) =
-      refuses (not (n.inside (sheet_of v) e)) 19 i (place_of l) ∷ checks_from (i + 1) es
+      check (not (n.inside (sheet_of v) e)) 19 i (place_of l) ∷ checks_from (i + 1) es
 
   abbrev pub entry_checks : Contents E → List Check
   entry_checks h = checks_from 0 (numbered h)
@@ -78,9 +78,9 @@ module _ (v : View) (vf : Contents VfName) (ee : Contents EeName) where
   -- whatever the output
   abbrev pub len_checks : List Check
   len_checks =
-      refuses (lacks_rows_in v) 16 0 0
+      check (lacks_rows_in v) 16 0 0
       ∷ (entry_checks vf_naming Vf v vf ++ entry_checks ee_naming Ee v ee)
 
   -- for an output of so many bytes
   abbrev pub report_checks : ℕ → List Check
-  report_checks places = len_checks ++ (refuses (nat_lt places (length report_text)) 23 0 0 ∷ [])
+  report_checks places = len_checks ++ (check (nat_lt places (length report_text)) 23 0 0 ∷ [])

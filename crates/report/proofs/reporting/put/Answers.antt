@@ -8,7 +8,7 @@ use Rattle.inspection.specs.Tests.{vf_naming, ee_naming}
 use Rattle.inspection.specs.declared.kinds.ListKind.TheVariants.{Vf, Ee}
 use Rattle.report.specs.Faults.{notice_at}
 use Rattle.report.specs.Lines.{vf_line, ee_line}
-use Rattle.report.specs.Reports.{view_of, lacks_rows_in, refuses, entry_checks, section, report_text}
+use Rattle.report.specs.Reports.{view_of, lacks_rows_in, check, entry_checks, section, report_text}
 use Rattle.report.proofs.Fronts.{two_parts}
 use Rattle.report.proofs.reporting.put.Goals as goal
 
@@ -19,7 +19,7 @@ returns-in_err-first-clause-fault g c =
     let first = entry_checks vf_naming Vf v (contents_of c.args.vf.now) in
     let second = entry_checks ee_naming Ee v (contents_of c.args.ee.now) in
     let no = ap (λ b. cond b (Some (notice_at 16 0 0)) None) (sym c.if-lacks_rows.false ∙ c.lacks_rows.ensures) in
-    rw (p.1, p.2) (stop first second _ c.in_err-first.ensures.fault ∙ past (refuses (lacks_rows_in v) 16 0 0 ∷ []) (first ++ second) no)
+    rw (p.1, p.2) (stop first second _ c.in_err-first.ensures.fault ∙ past (check (lacks_rows_in v) 16 0 0 ∷ []) (first ++ second) no)
 
 pub returns-in_err-second-clause-fault : goal.returns-in_err-second-clause-fault
 returns-in_err-second-clause-fault g c =
@@ -28,7 +28,7 @@ returns-in_err-second-clause-fault g c =
     let first = entry_checks vf_naming Vf v (contents_of c.args.vf.now) in
     let second = entry_checks ee_naming Ee v (contents_of c.args.ee.now) in
     let no = ap (λ b. cond b (Some (notice_at 16 0 0)) None) (sym c.if-lacks_rows.false ∙ c.lacks_rows.ensures) in
-    rw (p.1, p.2) (c.in_err-second.ensures.fault ∙ past first second c.in_ok-first.ensures.fault ∙ past (refuses (lacks_rows_in v) 16 0 0 ∷ []) (first ++ second) no)
+    rw (p.1, p.2) (c.in_err-second.ensures.fault ∙ past first second c.in_ok-first.ensures.fault ∙ past (check (lacks_rows_in v) 16 0 0 ∷ []) (first ++ second) no)
 
 pub returns-clause-fault : goal.returns-clause-fault
 returns-clause-fault g c =
@@ -36,7 +36,7 @@ returns-clause-fault g c =
     let first = entry_checks vf_naming Vf v (contents_of c.args.vf.now) in
     let second = entry_checks ee_naming Ee v (contents_of c.args.ee.now) in
     let no = ap (λ b. cond b (Some (notice_at 16 0 0)) None) (sym c.if-lacks_rows.false ∙ c.lacks_rows.ensures) in
-    c.in_ok-second.ensures.fault ∙ past first second c.in_ok-first.ensures.fault ∙ past (refuses (lacks_rows_in v) 16 0 0 ∷ []) (first ++ second) no
+    c.in_ok-second.ensures.fault ∙ past first second c.in_ok-first.ensures.fault ∙ past (check (lacks_rows_in v) 16 0 0 ∷ []) (first ++ second) no
 
 pub returns-clause-output : goal.returns-clause-output
 returns-clause-output g c fits =
