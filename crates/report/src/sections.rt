@@ -1,5 +1,5 @@
 // The lines of a list and of its counts.
-ghost use Rattle.std.specs.Prelude.{◌≡◌, ◌+◌, ◌*◌, ◌≤◌, false, [], ◌∷◌, length, Some, slice_get, IfOk, OnOk};
+ghost use Rattle.std.specs.Prelude.{◌≡◌, ◌+◌, ◌*◌, ◌≤◌, IsFalse, [], ◌∷◌, length, Some, slice_get, IfOk, OnOk};
 ghost use Rattle.sheet.specs.Checks.{first_fit, fault_notice};
 ghost use Rattle.sheet.specs.Sheet.{onto_front};
 ghost use Rattle.inspection.specs.Lists.{contents_of, entries};
@@ -26,7 +26,8 @@ pub(crate) fn put_section<F: Filter, E: HasLine>(
     tally: Tally,
     out: &mut [u8],
 ) -> Result<usize, ReportFault>
-    requires { lacks_rows_in (view_of F.Filter.struck inspection.now points.now faces.now) ≡ false }
+    requires { let v = view_of F.Filter.struck inspection.now points.now faces.now in
+        IsFalse (lacks_rows_in v) }
     ensures fault { let v = view_of F.Filter.struck inspection.now points.now faces.now in
         let checks = entry_checks E.TestName.naming E.HasLine.kind v (contents_of list.now) in
         fault_notice notice_of_report result ≡ first_fit checks }
@@ -66,7 +67,8 @@ fn line_of<F: Filter, E: HasLine>(
     i: u32,
     e: E,
 ) -> Result<Line, ReportFault>
-    requires rows { lacks_rows_in (view_of F.Filter.struck inspection.now points.now faces.now) ≡ false }
+    requires rows { let v = view_of F.Filter.struck inspection.now points.now faces.now in
+        IsFalse (lacks_rows_in v) }
     requires entry { slice_get (entries list.now) i ≡ Some e }
     ensures fault { let v = view_of F.Filter.struck inspection.now points.now faces.now in
         let checks = checks_from E.TestName.naming E.HasLine.kind v i (e ∷ []) in
