@@ -1,0 +1,3 @@
+pub mod Events
+pub mod Traces
+pub mod Works

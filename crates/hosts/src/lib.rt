@@ -1,0 +1,6 @@
+//! Where a program's bytes come from and go to.
+#![tactic(auto)]
+
+mod hosts;
+
+pub use hosts::Host;
