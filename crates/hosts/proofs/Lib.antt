@@ -1,2 +1,3 @@
+pub mod Fronts
 pub mod Histories
 pub mod Printing

@@ -1,4 +1,5 @@
 pub mod Files
-pub mod Lenders
-pub mod Steps
-pub mod Tables
+pub mod Offers
+pub mod Requests
+pub mod Telling
+pub mod Turns
