@@ -1,8 +1,10 @@
 -- An offer makes one more step of the walk.
-use Rattle.std.proofs.Common.{◌≡◌, ℕ, ◌+◌, ◌-◌, ◌<◌, ◌≤◌, Bool, true, false, if◌then◌else◌, ◌||◌, List, [], ◌∷◌, ◌++◌, length, drop, Some, None, Option, Ok, Err, Result, nat_lt, IsFalse, refl, sym, ap, ◌∙◌, subst, arith, length-drop, length-append}
+use Rattle.std.proofs.Common.{◌≡◌, ℕ, ◌+◌, ◌-◌, ◌<◌, ◌≤◌, Bool, true, false, if◌then◌else◌, ◌||◌, List, [], ◌∷◌, ◌++◌, length, drop, Some, None, Option, Ok, Err, Result, nat_lt, IsFalse, refl, sym, ap, ◌∙◌, subst, arith, length-drop, length-append, length-take, take, All}
 use Rattle.std.proofs.lemmas.Bool.Decides.{nat_tests}
-use Rattle.std.proofs.lemmas.Bool.{ltb-false}
-use Rattle.sheet.proofs.FirstFit.{none_parts, no_fit}
+use Rattle.std.proofs.lemmas.Bool.{ltb-false, leb-false, not-false}
+use Rattle.std.proofs.lemmas.List.{length-map}
+use Rattle.inspection.proofs.Inside.{VfIn, EeIn, after_all, vf_in, ee_in}
+use Rattle.sheet.proofs.FirstFit.{none_parts, no_fit, none_fits}
 use Rattle.sheet.specs.Checks.{Check, first_fit}
 use Rattle.sheet.specs.declared.notices.Layer.TheVariants.{Offer}
 use Rattle.sheet.specs.declared.drafts.Draft.{Draft}
@@ -15,12 +17,12 @@ use Rattle.inspection.specs.declared.faults.OfferFault.{OfferFault}
 use Rattle.inspection.specs.Classes.{Rules, rules_at, class_of, entries_with, entries_after}
 use Rattle.inspection.specs.Faults.{check, notice_of_offer}
 use Rattle.inspection.specs.Lists.{Contents, with_entries}
-use Rattle.inspection.specs.Offerings.{Offering}
+use Rattle.inspection.specs.Offerings.{Offering, Faces}
 use Rattle.inspection.specs.Offers.{lacks_rows, lacks_room, pair_checks, offer_checks, room_check, entries_by, tally_by, state_after, OfferStep}
 use Rattle.inspection.specs.Runs.{Accepted, Run, offered as run_offered}
-use Rattle.inspection.specs.Sheets.{Sheet, sheet_in}
+use Rattle.inspection.specs.Sheets.{Sheet, sheet_in, face_at, moving_of}
 use Rattle.inspection.specs.States.{State, Core, with_counts}
-use Rattle.inspection.specs.Tests.{Naming, vf_naming, ee_naming}
+use Rattle.inspection.specs.Tests.{Naming, corners_below, corners_inside, vf_naming, ee_naming}
 use Rattle.hosts.specs.Events.{Event, Call}
 use Rattle.hosts.specs.Traces.{Went, nothing}
 use Rattle.hosts.specs.Works.{Worked}
@@ -58,6 +60,22 @@ left : {E : Type 0} (h : Contents E) (es : List E) → length h.entries + length
 left h es e more fits = omega (arith, length-drop (length es - length h.entries) h.rest, ltb-false places (length es) fits)
 
 module _ (set : Shape → Bool) (d : Draft) (ps : List Point) (fs : List Face) (sheet : Sheet) where
+  -- a pair that fits no check has tests of the sheet
+  tests_inside : (n : ℕ) (o : Offering) → IsFalse (lacks_rows d ps fs) → sheet_in d ps fs ≡ sheet → first_fit (pair_checks d sheet o n) ≡ None
+      → All (VfIn sheet) (vf_naming.tests sheet o) × All (EeIn sheet) (ee_naming.tests sheet o)
+  tests_inside n (Faces f g) rows tables none =
+      let p = none_fits (pair_checks d sheet (Faces f g) n) none in
+      let short = neither (nat_lt (length ps) d.points) (nat_lt (length fs) d.faces) rows in
+      let points : d.points ≡ length sheet.points =
+      omega (arith, length-map (take d.points ps) moving_of, length-take d.points ps, ltb-false (length ps) d.points short.0, ap (λ (s : Sheet). length s.points) tables) in
+      let faces : d.faces ≡ length sheet.faces =
+      omega (arith, length-take d.faces fs, ltb-false (length fs) d.faces short.1, ap (λ (s : Sheet). length s.faces) tables) in
+      let hf : f < length sheet.faces = omega (arith, faces, leb-false d.faces f p.0) in
+      let hg : g < length sheet.faces = omega (arith, faces, leb-false d.faces g p.1.0) in
+      let cf : corners_inside sheet (face_at sheet f) ≡ true = ap (λ k. corners_below k (face_at sheet f)) (sym points) ∙ not-false (corners_below d.points (face_at sheet f)) p.1.1.1.0 in
+      let cg : corners_inside sheet (face_at sheet g) ≡ true = ap (λ k. corners_below k (face_at sheet g)) (sym points) ∙ not-false (corners_below d.points (face_at sheet g)) p.1.1.1.1.0 in
+      (vf_in sheet f g hf hg cf cg, ee_in sheet f g hf hg cf cg)
+
   module _ (o : Offering) (w : Walk) (s : State) (m : Made set d ps fs sheet w s) where
     draft : s.core.draft ≡ d
     draft = ap (λ (c : Core). c.draft) m.core ∙ m.draft
@@ -103,6 +121,7 @@ module _ (set : Shape → Bool) (d : Draft) (ps : List Point) (fs : List Face) (
         let full = check (is_full set sheet o w.found) 21 Offer 0 in
         let fits = neither (nat_lt places (length (vf_after set sheet o w.found))) (nat_lt places (length (ee_after set sheet o w.found)))
             (no_fit full [] (none_parts checks (full ∷ []) none).1).0 in
+        let fresh = tests_inside w.found.core.accepted o m.rows m.tables (ap (λ k. first_fit (pair_checks k sheet o w.found.core.accepted)) (sym m.draft) ∙ (none_parts checks (full ∷ []) none).0) in
         record {
           rows = m.rows;
           tables = m.tables;
@@ -119,6 +138,8 @@ module _ (set : Shape → Bool) (d : Draft) (ps : List Point) (fs : List Face) (
           run =
               let next = run_offered ps fs o (Ok u) t m.run (λ rows. m.tables) step in
               subst (λ k. Run set d sheet (w.accepted ++ (record { what = o; depth = k } ∷ [])) t) (ap (λ (c : Core). c.depth) m.core) next;
+          vf_inside = after_all (rules_at vf_naming set w.found.core.depth sheet) (VfIn sheet) w.found.vf (vf_naming.tests sheet o) m.vf_inside fresh.0;
+          ee_inside = after_all (rules_at ee_naming set w.found.core.depth sheet) (EeIn sheet) w.found.ee (ee_naming.tests sheet o) m.ee_inside fresh.1;
         }
 
     refused : (e : OfferFault) (t : State) → OfferStep set ps fs o s (Err e) t → Made set d ps fs sheet (sorted_in set sheet w o (Some (notice_of_offer e))) t
@@ -134,6 +155,8 @@ module _ (set : Shape → Bool) (d : Draft) (ps : List Point) (fs : List Face) (
           vf_places = ap (λ (x : State). length x.vf.entries + length x.vf.rest) same ∙ m.vf_places;
           ee_places = ap (λ (x : State). length x.ee.entries + length x.ee.rest) same ∙ m.ee_places;
           run = run_offered ps fs o (Err e) t m.run (λ rows. m.tables) step;
+          vf_inside = m.vf_inside;
+          ee_inside = m.ee_inside;
         }
 
     pub made : (r : Result (Unit {0}) OfferFault) (t : State) → OfferStep set ps fs o s r t → Made set d ps fs sheet (offered set sheet w o) t

@@ -1,5 +1,5 @@
 -- How far a run has come: what of a walk over pairs is told, and the inspection that has made it.
-use Rattle.std.specs.Prelude.{◌≡◌, ℕ, ◌+◌, Bool, IsFalse, List, [], ◌++◌, length, take, replicate, Result}
+use Rattle.std.specs.Prelude.{◌≡◌, ℕ, ◌+◌, Bool, IsTrue, IsFalse, All, List, [], ◌++◌, length, take, replicate, Result}
 use Rattle.hosts.specs.Events.{Event, Call, Reading, printed, stored, files_read, unread, asked, came}
 use Rattle.hosts.specs.Works.{Worked, IsFront}
 use Rattle.sheet.specs.declared.drafts.Draft.{Draft}
@@ -11,6 +11,7 @@ use Rattle.inspection.specs.Offerings.{Offering}
 use Rattle.inspection.specs.Runs.{Run}
 use Rattle.inspection.specs.Sheets.{Sheet, sheet_in}
 use Rattle.inspection.specs.States.{State}
+use Rattle.inspection.specs.Tests.{vf_inside, ee_inside}
 use Rattle.printout.specs.Outcomes.{same_file}
 use Rattle.printout.specs.Walks.{Walk, places, pairs_in, walked, refusal_lines, refused_pairs}
 use Rattle.printout.specs.declared.plan_files.PlanFile.{PlanFile}
@@ -29,6 +30,9 @@ pub record Made
   pub vf_places : length s.vf.entries + length s.vf.rest ≡ places
   pub ee_places : length s.ee.entries + length s.ee.rest ≡ places
   pub run : Run set d sheet w.accepted s
+  -- what is listed has numbers of the sheet
+  pub vf_inside : All (λ e. IsTrue (vf_inside sheet e)) w.found.vf
+  pub ee_inside : All (λ e. IsTrue (ee_inside sheet e)) w.found.ee
 
 -- ---- what comes to the walk from w to v is told, or a front of it; no file is read
 pub record Tells (w v : Walk) (es : List (Event PlanFile)) : Type 0 where
