@@ -1,3 +1,4 @@
 pub mod Events
+pub mod Pages
 pub mod Traces
 pub mod Works
