@@ -20,31 +20,32 @@ same_file f g = false
 abbrev pub ReadsPlan : Plan → List (Event PlanFile) → Type 0
 ReadsPlan p es = Fits same_file (bytes_of p) es
 
--- ---- a run to its end
-pub record EndsAs (p : Plan) (es : List (Event PlanFile)) (end : Ending) : Type 0 where
-  pub text : printed es ≡ (printout p).text
-  pub stored : stored es ≡ (printout p).stored
-  pub ending : end ≡ (printout p).ending
-  -- it is complete just where sheet and step have no fault
-  pub complete : (end ≡ Complete) ↔ (fault p ≡ None)
-  -- the files that are needed, in their order, and no others
-  pub pieces : ℕ
-  pub files : files_read es ≡ needed p pieces
-  pub claim : ClaimOfPlan p
+-- ---- a run to its end, and a run that a call stops
+-- of the files that are needed, where the pairs come in so many pieces
+module _ (p : Plan) (needed_in : ℕ → List PlanFile) where
+  pub record EndsWith (es : List (Event PlanFile)) (end : Ending) : Type 0 where
+    pub text : printed es ≡ (printout p).text
+    pub stored : stored es ≡ (printout p).stored
+    pub ending : end ≡ (printout p).ending
+    -- it is complete just where sheet and step have no fault
+    pub complete : (end ≡ Complete) ↔ (fault p ≡ None)
+    -- the files that are needed are read, in their order, and no others
+    pub pieces : ℕ
+    pub files : files_read es ≡ needed_in pieces
+    pub claim : ClaimOfPlan p
 
--- ---- a run that a call stops
-pub record StopsIn (p : Plan) (es : List (Event PlanFile)) (call : Call PlanFile) : Type 0 where
-  pub text : IsFront (printed es) (printout p).text
-  pub stored : IsFront (stored es) (printout p).stored
-  pub pieces : ℕ
-  pub files : IsFront (files_read es ++ unread call) (needed p pieces)
-  -- where a file could not be read, all is told of the pairs that came before
-  pub told : (f : PlanFile) → call ≡ Reading f
-      → printed es ≡ refusal_lines (walked delivered (sheet p) (just_opened (draft p)) (pairs_in (came (same_file Pairs) es)))
+  pub record StopsWith (es : List (Event PlanFile)) (call : Call PlanFile) : Type 0 where
+    pub text : IsFront (printed es) (printout p).text
+    pub stored : IsFront (stored es) (printout p).stored
+    pub pieces : ℕ
+    pub files : IsFront (files_read es ++ unread call) (needed_in pieces)
+    -- where a file could not be read, all is told of the pairs that came before
+    pub told : (f : PlanFile) → call ≡ Reading f
+        → printed es ≡ refusal_lines (walked delivered (sheet p) (just_opened (draft p)) (pairs_in (came (same_file Pairs) es)))
 
 -- ---- all that a run can come to
 abbrev pub Inspects : {S E : Type 0} → (S → Event PlanFile → S → Type 0)
     → (S → Call PlanFile → E → S → Type 0) → S → Result Ending E → S → Type 0
 Inspects does fails s r t =
-    Worked does fails (λ es ending. (p : Plan) → ReadsPlan p es → EndsAs p es ending)
-    (λ es call. (p : Plan) → ReadsPlan p es → StopsIn p es call) s r t
+    Worked does fails (λ es ending. (p : Plan) → ReadsPlan p es → EndsWith p (needed p) es ending)
+    (λ es call. (p : Plan) → ReadsPlan p es → StopsWith p (needed p) es call) s r t

@@ -6,6 +6,10 @@ mod notices;
 mod offering;
 mod pairs;
 mod plan_files;
+mod plans;
+mod tables;
 
 pub use endings::Ending;
 pub use plan_files::PlanFile;
+pub use plans::inspect_plan;
+pub use tables::Tables;
