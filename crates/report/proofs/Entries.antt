@@ -1,6 +1,6 @@
 -- The entries of a list, one after the other.
-use Rattle.std.proofs.Common.{◌≡◌, ℕ, ◌+◌, ◌<◌, ◌≤◌, List, [], ◌∷◌, ◌++◌, length, take, drop, flat_map, get_or, slice_get, Some, Ok, Err, Result, sym, ap, ◌∙◌, subst, arith, append_assoc, append-nil}
-use Rattle.std.proofs.lemmas.List.{length-take, get_or-take, take_more, take_all, take-append-drop}
+use Rattle.std.proofs.Common.{◌≡◌, ℕ, ◌+◌, ◌<◌, List, [], ◌∷◌, ◌++◌, length, take, drop, flat_map, get_or, slice_get, Some, Ok, Err, Result, sym, ap, ◌∙◌, subst, arith, append-nil}
+use Rattle.std.proofs.lemmas.List.{length-take, get_or-take, take_more, take-append-drop}
 use Rattle.std.proofs.lemmas.List.Concat.{flat_map-append}
 use Rattle.std.proofs.lemmas.Option.{slice_get-get_or}
 use Rattle.hosts.specs.Events.{Event, Call}
@@ -33,19 +33,13 @@ module _
         (sym (lines_more line es i e h is))
         (printed_then does fails s t u (flat_map line (take i es)) (line e) (tt {0}) (Ok (tt {0})) before now)
 
-    -- no line after it, and nothing that would come behind
-    pub line_cut : (x : X) (r : Result (Unit {0}) X) (last : List ℕ) → i < length es → e ≡ get_or es i e → Before
-        → Stopped does fails (IsPrintedInPart (line e)) t x u → r ≡ Err x → Prints does fails (flat_map line es ++ last) s r u
-    line_cut x r last h is before now failed =
-        let later = flat_map line (drop (i + 1) es) in
+    -- and none after it
+    pub line_cut : (x : X) (r : Result (Unit {0}) X) → i < length es → e ≡ get_or es i e → Before
+        → Stopped does fails (IsPrintedInPart (line e)) t x u → r ≡ Err x → Prints does fails (flat_map line es) s r u
+    line_cut x r h is before now failed =
+        let done = take (i + 1) es in
+        let left = drop (i + 1) es in
         subst (λ text. Prints does fails text s r u)
-        (ap (λ text. text ++ (later ++ last)) (sym (lines_more line es i e h is)) ∙ sym (append_assoc (flat_map line (take (i + 1) es)) later last)
-        ∙ ap (λ text. text ++ last) (sym (flat_map-append line (take (i + 1) es) (drop (i + 1) es)) ∙ ap (flat_map line) (take-append-drop (i + 1) es)))
-        (printed_short does fails s u (flat_map line (take i es) ++ line e) (later ++ last) x r
+        (ap (λ text. text ++ flat_map line left) (sym (lines_more line es i e h is)) ∙ sym (flat_map-append line done left) ∙ ap (flat_map line) (take-append-drop (i + 1) es))
+        (printed_short does fails s u (flat_map line (take i es) ++ line e) (flat_map line left) x r
         (printed_then does fails {Y = Unit {0}} s t u (flat_map line (take i es)) (line e) (tt {0}) (Err x) before now) failed)
-
-  -- and the last behind all
-  pub last_printed : (last : List ℕ) (r : Result (Unit {0}) X) → length es ≤ i → Before → Prints does fails last t r u → Prints does fails (flat_map line es ++ last) s r u
-  last_printed last r all before now =
-      subst (λ front. Prints does fails (flat_map line front ++ last) s r u) (take_all i es all)
-      (printed_then does fails s t u (flat_map line (take i es)) last (tt {0}) r before now)

@@ -1,5 +1,5 @@
 // The report, printed line by line.
-ghost use Rattle.std.specs.Prelude.{◌≡◌, ◌^◌, ◌*◌, ◌<◌, ◌≤◌, IsTrue, IsFalse, length, Some, None, slice_get, IfOk, OnOk, OnErr};
+ghost use Rattle.std.specs.Prelude.{◌≡◌, ◌^◌, ◌*◌, ◌<◌, ◌≤◌, IsTrue, IsFalse, length, Some, None, slice_get, flat_map, IfOk, OnOk, OnErr};
 ghost use Rattle.sheet.specs.Checks.{first_fit, fault_notice};
 ghost use Rattle.inspection.specs.Lists.{entries};
 ghost use Rattle.inspection.specs.Tests.{vf_naming, ee_naming};
@@ -74,7 +74,7 @@ fn print_lists<F: Filter, H: Host>(
 }
 
 /// Prints the lines of a list and of its counts.
-#[tactic(auto, using(hosts::proofs::Printing::nothing_printed, crate::proofs::Entries::entry_there))]
+#[tactic(auto, using(hosts::proofs::Printing::printed_then, hosts::proofs::Printing::printed_short))]
 fn print_section<F: Filter, E: HasLine, H: Host>(
     inspection: &Inspection<F>,
     points: &[Point],
@@ -94,17 +94,35 @@ fn print_section<F: Filter, E: HasLine, H: Host>(
         let lines = section E.TestName.naming E.HasLine.kind v E.HasLine.line in
         OnOk result (length (lines (entries list.now) tally) ≤ 96 * 4294967297) }
 {
-    for (i, e) in numbered(list).iter().enumerate() {
-        print_entry(inspection, points, faces, list, i as u32, *e, host)?;
-    }
+    print_entries(inspection, points, faces, list, host)?;
     print_line(host, &count_line(E::kind(), tally))
 }
 
-#[tactic(auto, using(hosts::proofs::Printing::printed_at_once))]
-fn print_line<H: Host>(host: &mut H, line: &Line) -> Result<(), H::Error>
-    ensures { Prints H.does H.fails line.now.bytes host.old result host.new }
+/// Prints the lines of the entries.
+#[tactic(auto, using(hosts::proofs::Printing::nothing_printed, crate::proofs::Entries::entry_there))]
+fn print_entries<F: Filter, E: HasLine, H: Host>(
+    inspection: &Inspection<F>,
+    points: &[Point],
+    faces: &[Face],
+    list: &List<'_, E>,
+    host: &mut H,
+) -> Result<(), H::Error>
+    requires rows { let v = view_of F.Filter.struck inspection.now points.now faces.now in
+        IsFalse (lacks_rows_in v) }
+    requires inside { let v = view_of F.Filter.struck inspection.now points.now faces.now in
+        AllInside E.TestName.naming v (numbered (entries list.now)) }
+    ensures printed { let v = view_of F.Filter.struck inspection.now points.now faces.now in
+        let line = entry_line E.TestName.naming E.HasLine.kind v E.HasLine.line in
+        let text = flat_map line (numbered (entries list.now)) in
+        Prints H.does H.fails text host.old result host.new }
+    ensures short { let v = view_of F.Filter.struck inspection.now points.now faces.now in
+        let line = entry_line E.TestName.naming E.HasLine.kind v E.HasLine.line in
+        OnOk result (length (flat_map line (numbered (entries list.now))) ≤ 96 * 4294967296) }
 {
-    host.print(line.as_str().as_bytes())
+    for (i, e) in numbered(list).iter().enumerate() {
+        print_entry(inspection, points, faces, list, i as u32, *e, host)?;
+    }
+    Ok(())
 }
 
 /// Prints the line of the entry with this number.
@@ -128,29 +146,15 @@ fn print_entry<F: Filter, E: HasLine, H: Host>(
     ensures short { let v = view_of F.Filter.struck inspection.now points.now faces.now in
         length (entry_line E.TestName.naming E.HasLine.kind v E.HasLine.line e) ≤ 96 }
 {
-    print_line(host, &line_of(inspection, points, faces, list, i, e))
-}
-
-/// The line of the entry with this number.
-fn line_of<F: Filter, E: HasLine>(
-    inspection: &Inspection<F>,
-    points: &[Point],
-    faces: &[Face],
-    list: &List<'_, E>,
-    i: u32,
-    e: E,
-) -> Line
-    requires rows { let v = view_of F.Filter.struck inspection.now points.now faces.now in
-        IsFalse (lacks_rows_in v) }
-    requires entry { slice_get (entries list.now) i ≡ Some e }
-    requires inside { let v = view_of F.Filter.struck inspection.now points.now faces.now in
-        IsTrue (E.TestName.naming.inside (sheet_of v) e) }
-    ensures text { let v = view_of F.Filter.struck inspection.now points.now faces.now in
-        result.bytes ≡ entry_line E.TestName.naming E.HasLine.kind v E.HasLine.line e }
-    ensures short { length result.bytes ≤ 96 }
-{
     let Ok(window) = inspection.window(points, faces, list, i) else {
         unreachable!()
     };
-    e.line(window)
+    print_line(host, &e.line(window))
+}
+
+#[tactic(auto, using(hosts::proofs::Printing::printed_at_once))]
+fn print_line<H: Host>(host: &mut H, line: &Line) -> Result<(), H::Error>
+    ensures { Prints H.does H.fails line.now.bytes host.old result host.new }
+{
+    host.print(line.as_str().as_bytes())
 }

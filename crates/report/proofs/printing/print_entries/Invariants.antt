@@ -2,7 +2,7 @@ use Rattle.std.proofs.Common.{◌*◌, ◌≤◌, length, take, flat_map, Ok}
 use Rattle.inspection.specs.Lists.{entries}
 use Rattle.hosts.specs.Works.{Prints}
 use Rattle.report.specs.Reports.{view_of, numbered, entry_line}
-use Rattle.report.proofs.printing.print_section.Given as goal
+use Rattle.report.proofs.printing.print_entries.Given as goal
 
 -- the lines of the entries before are printed
 abbrev pub invariant-loop-i : goal.invariant-loop-i
