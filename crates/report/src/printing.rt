@@ -5,7 +5,7 @@ ghost use Rattle.inspection.specs.Lists.{entries};
 ghost use Rattle.inspection.specs.Tests.{vf_naming, ee_naming};
 ghost use Rattle.hosts.specs.Works.{Prints};
 ghost use Rattle.report.specs.Faults.{notice_of_report};
-ghost use Rattle.report.specs.Reports.{view_of, lacks_rows_in, sheet_of, numbered, AllInside, entry_line, section, entry_checks, len_checks, report_text, printed_report};
+ghost use Rattle.report.specs.Reports.{view_of, numbered, AllInside, entry_line, section, entry_checks, len_checks, report_text, printed_report};
 
 use crate::checking::check_report;
 use crate::faults::ReportFault;
@@ -57,7 +57,7 @@ fn print_lists<F: Filter, H: Host>(
     host: &mut H,
 ) -> Result<(), H::Error>
     requires rows { let v = view_of F.Filter.struck inspection.now points.now faces.now in
-        IsFalse (lacks_rows_in v) }
+        IsFalse v.lacks_rows }
     requires vf { let v = view_of F.Filter.struck inspection.now points.now faces.now in
         AllInside vf_naming v (numbered (entries vf.now)) }
     requires ee { let v = view_of F.Filter.struck inspection.now points.now faces.now in
@@ -84,7 +84,7 @@ fn print_section<F: Filter, E: HasLine, H: Host>(
     host: &mut H,
 ) -> Result<(), H::Error>
     requires rows { let v = view_of F.Filter.struck inspection.now points.now faces.now in
-        IsFalse (lacks_rows_in v) }
+        IsFalse v.lacks_rows }
     requires inside { let v = view_of F.Filter.struck inspection.now points.now faces.now in
         AllInside E.TestName.naming v (numbered (entries list.now)) }
     ensures printed { let v = view_of F.Filter.struck inspection.now points.now faces.now in
@@ -108,7 +108,7 @@ fn print_entries<F: Filter, E: HasLine, H: Host>(
     host: &mut H,
 ) -> Result<(), H::Error>
     requires rows { let v = view_of F.Filter.struck inspection.now points.now faces.now in
-        IsFalse (lacks_rows_in v) }
+        IsFalse v.lacks_rows }
     requires inside { let v = view_of F.Filter.struck inspection.now points.now faces.now in
         AllInside E.TestName.naming v (numbered (entries list.now)) }
     ensures printed { let v = view_of F.Filter.struck inspection.now points.now faces.now in
@@ -136,10 +136,10 @@ fn print_entry<F: Filter, E: HasLine, H: Host>(
     host: &mut H,
 ) -> Result<(), H::Error>
     requires rows { let v = view_of F.Filter.struck inspection.now points.now faces.now in
-        IsFalse (lacks_rows_in v) }
+        IsFalse v.lacks_rows }
     requires entry { slice_get (entries list.now) i ≡ Some e }
     requires inside { let v = view_of F.Filter.struck inspection.now points.now faces.now in
-        IsTrue (E.TestName.naming.inside (sheet_of v) e) }
+        IsTrue (E.TestName.naming.inside v.sheet e) }
     ensures printed { let v = view_of F.Filter.struck inspection.now points.now faces.now in
         let text = entry_line E.TestName.naming E.HasLine.kind v E.HasLine.line e in
         Prints H.does H.fails text host.old result host.new }
