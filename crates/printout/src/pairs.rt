@@ -1,9 +1,15 @@
 // Offering the pairs of a plan's file.
-ghost use Rattle.std.specs.Prelude.{◌≡◌, ◌<◌, ◌≤◌, ◌%◌, length};
+ghost use Rattle.std.specs.Prelude.{◌≡◌, ◌<◌, ◌≤◌, ◌%◌, IsFalse, length, IfOk, OnOk};
 ghost use Rattle.sheet.specs.Sheet.{point_limit, face_limit};
+ghost use Rattle.hosts.specs.Works.{Prints};
+ghost use Rattle.inspection.specs.Claims.{Findings};
+ghost use Rattle.inspection.specs.Lists.{entries};
 ghost use Rattle.inspection.specs.States.{state_of};
+ghost use Rattle.inspection.specs.Tests.{vf_naming, ee_naming};
+ghost use Rattle.report.specs.Reports.{view_of, AllInside, report_text};
 ghost use Rattle.printout.specs.Phases.{PairsRan};
 ghost use Rattle.printout.specs.Progress.{OffersFile};
+ghost use Rattle.printout.specs.declared.endings.Ending.TheVariants.{Complete};
 
 use crate::endings::Ending;
 use crate::offering::offer_pairs;
@@ -12,6 +18,7 @@ use crate::tables::Tables;
 use filters::{Filter, delivered_filter};
 use hosts::Host;
 use inspection::{EeName, Inspection, List, VfName};
+use report::print_report;
 use sheet::{Draft, Face, Point};
 
 /// At which depth the tests are struck.
@@ -69,5 +76,33 @@ pub(crate) fn inspect_pairs<H: Host<File = PlanFile>>(
     let points = &tables.points;
     let faces = &tables.faces;
     offer_file(&mut inspection, points, faces, &mut vf, &mut ee, &mut tables.pairs, host)?;
+    print_found(&inspection, points, faces, &vf, &ee, host)
+}
+
+/// Prints what an inspection has found.
+fn print_found<F: Filter, H: Host<File = PlanFile>>(
+    inspection: &Inspection<F>,
+    points: &[Point],
+    faces: &[Face],
+    vf: &List<'_, VfName>,
+    ee: &List<'_, EeName>,
+    host: &mut H,
+) -> Result<Ending, H::Error>
+    requires rows { let v = view_of F.Filter.struck inspection.now points.now faces.now in
+        IsFalse v.lacks_rows }
+    requires vf { let v = view_of F.Filter.struck inspection.now points.now faces.now in
+        AllInside vf_naming v (entries vf.now) }
+    requires ee { let v = view_of F.Filter.struck inspection.now points.now faces.now in
+        AllInside ee_naming v (entries ee.now) }
+    ensures printed { let v = view_of F.Filter.struck inspection.now points.now faces.now in
+        let text = report_text v (entries vf.now) (entries ee.now) in
+        Prints H.does H.fails text host.old result host.new }
+    ensures ending { IfOk result (λ ending. ending ≡ Complete) }
+    ensures claim { let v = view_of F.Filter.struck inspection.now points.now faces.now in
+        OnOk result (Findings v.set (state_of inspection.now vf.now ee.now)) }
+{
+    let Ok(()) = print_report(inspection, points, faces, vf, ee, host)? else {
+        unreachable!()
+    };
     Ok(Ending::Complete)
 }

@@ -1,0 +1,140 @@
+-- A run after the step: its pairs are offered, and then what is found is reported.
+use Rattle.std.proofs.Common.{◌≡◌, ℕ, ◌+◌, ◌≤◌, Bool, true, false, not, IsTrue, IsFalse, if◌then◌else◌, List, [], ◌∷◌, ◌++◌, All, length, take, drop, replicate, flat_map, Some, None, Ok, Err, Result, IfOk, OnOk, refl, sym, ap, ◌∙◌, subst, arith, append_assoc, append-nil}
+use Rattle.std.proofs.lemmas.List.Concat.{flat_map-append}
+use Rattle.std.proofs.lemmas.List.Elements.{All-head, All-tail, All-nil}
+use Rattle.std.proofs.lemmas.List.Sums.{sum_by-append, fold-append}
+use Rattle.hosts.specs.Events.{Event, Call, Reading, Printing, printed, stored, files_read, unread, asked, came, printed_by, stored_by, file_read_by, asked_by, came_by}
+use Rattle.hosts.specs.Works.{Worked, IsFront, IsPrinted, IsPrintedInPart, Prints}
+use Rattle.hosts.proofs.Fronts.{whole, front_of, front_of_front, front_behind}
+use Rattle.hosts.proofs.Histories.{went_on, prints_store_nothing, prints_read_nothing, not_asked, not_came}
+use Rattle.sheet.specs.Checks.{Check, first_fit}
+use Rattle.sheet.specs.declared.drafts.Draft.{Draft}
+use Rattle.sheet.specs.declared.rows.Point.{Point}
+use Rattle.sheet.specs.declared.rows.Face.{Face}
+use Rattle.motion.specs.declared.shapes.Shape.{Shape}
+use Rattle.motion.specs.Rows.{delivered}
+use Rattle.inspection.specs.declared.kinds.ListKind.{ListKind}
+use Rattle.inspection.specs.Claims.{Claim, Findings}
+use Rattle.inspection.specs.Lists.{Contents}
+use Rattle.inspection.specs.Offerings.{Offering}
+use Rattle.inspection.specs.Offers.{lacks_rows}
+use Rattle.inspection.specs.Runs.{Accepted, Run, Opened, opened}
+use Rattle.inspection.specs.Sheets.{Sheet, sheet_in}
+use Rattle.inspection.specs.States.{State, Core, core_at_start}
+use Rattle.inspection.specs.Tests.{Naming, vf_naming, ee_naming}
+use Rattle.report.specs.Reports.{View, AllInside, checks_from, entry_checks, numbered, report_text}
+use Rattle.printout.specs.Outcomes.{same_file, EndsWith, StopsWith}
+use Rattle.printout.specs.Phases.{FitsFile, HoldsPlan, PairsRan}
+use Rattle.printout.specs.Plans.{Plan, fault, printout, printout_by, sheet, draft, walk, report_of, names_alone, state_found, ClaimOfPlan}
+use Rattle.printout.specs.Progress.{Made, pairs_came, ReadsPairs, CameWhole, TellsFile, TellsFileInPart, OffersFile}
+use Rattle.printout.specs.Walks.{Walk, Found, depth, places, pairs_in, just_opened, offered, walked, refusal_lines, refused_pairs}
+use Rattle.printout.specs.declared.endings.Ending.{Ending}
+use Rattle.printout.specs.declared.endings.Ending.TheVariants.{Complete}
+use Rattle.printout.specs.declared.plan_files.PlanFile.{PlanFile}
+use Rattle.printout.specs.declared.plan_files.PlanFile.TheVariants.{Sheet, Step, Pairs}
+use Rattle.printout.proofs.Telling.{goes_on}
+
+-- ---- no check of the report fits entries that are of the sheet
+inside_not : (b : Bool) → IsTrue b → not b ≡ false
+inside_not b h = ap not h
+
+pub no_stray : {E : Type 0} (n : Naming E) (l : ListKind) (v : View) (i : ℕ) (es : List E) → All (λ e. IsTrue (n.inside v.sheet e)) es → first_fit (checks_from n l v i es) ≡ None
+no_stray n l v i [] all = refl
+no_stray n l v i (e ∷ es) all =
+    ap (λ b. if b then Some _ else first_fit (checks_from n l v (i + 1) es)) (inside_not (n.inside v.sheet e) (All-head (λ x. IsTrue (n.inside v.sheet x)) e es all))
+    ∙ no_stray n l v (i + 1) es (All-tail (λ x. IsTrue (n.inside v.sheet x)) e es all)
+
+-- ---- the claim looks at nothing of the lists but their names
+pub claim_found : (set : Shape → Bool) (d : Draft) (s : Sheet) (h : List Accepted) (f : Found) (t : State) → t.core ≡ f.core → t.vf.entries ≡ f.vf → t.ee.entries ≡ f.ee → Claim set d s h t → Claim set d s h (state_found f)
+claim_found set d s h f t core vf ee c =
+    let same : State = record { core = f.core; vf = record { entries = f.vf; rest = t.vf.rest; lender = t.vf.lender }; ee = record { entries = f.ee; rest = t.ee.rest; lender = t.ee.lender } } in
+    let e : t ≡ same = (λ i. record { core = core i; vf = record { entries = vf i; rest = t.vf.rest; lender = t.vf.lender }; ee = record { entries = ee i; rest = t.ee.rest; lender = t.ee.lender } }) in
+    let k : Claim set d s h same = subst (λ u. Claim set d s h u) e c in
+    record {
+      draft = k.draft;
+      vf = k.vf;
+      ee = k.ee;
+      again = k.again;
+      of_sheet = k.of_sheet;
+      offers = k.offers;
+      vf_classes = k.vf_classes;
+      ee_classes = k.ee_classes;
+      vf_counts = k.vf_counts;
+      ee_counts = k.ee_counts;
+    }
+
+module _ (d : Draft) (ps : List Point) (fs : List Face) where
+  -- ---- an inspection that is just opened has made no step of the walk
+  pub made_none : (s : State) → IsFalse (lacks_rows d ps fs) → Opened d s → s.core ≡ core_at_start d depth → length s.vf.rest ≡ places → length s.ee.rest ≡ places
+      → Made delivered d ps fs (sheet_in d ps fs) (just_opened d) s
+  made_none s rows o core vf ee =
+      record {
+        rows = rows;
+        tables = refl;
+        draft = refl;
+        core = core;
+        vf = o.vf;
+        ee = o.ee;
+        vf_places = ap (λ es. length es + length s.vf.rest) o.vf ∙ omega (arith, vf);
+        ee_places = ap (λ es. length es + length s.ee.rest) o.ee ∙ omega (arith, ee);
+        run = opened o;
+        vf_inside = All-nil (λ e. IsTrue (vf_naming.inside (sheet_in d ps fs) e));
+        ee_inside = All-nil (λ e. IsTrue (ee_naming.inside (sheet_in d ps fs) e));
+      }
+
+  -- ---- of a plan that the tables hold, and of the events that offer its pairs
+  module _ (p : Plan) (h : HoldsPlan p d ps fs) (es : List (Event PlanFile)) where
+    abbrev pub end : Walk
+    end = walked delivered (sheet_in d ps fs) (just_opened d) (pairs_came es)
+
+    made : printout p ≡ printout_by p None
+    made = ap (printout_by p) h.no_fault
+
+    -- the walk over any pairs
+    pub same_walk : (os : List Offering) → walked delivered (sheet_in d ps fs) (just_opened d) os ≡ walked delivered (sheet p) (just_opened (draft p)) os
+    same_walk os = λ i. walked delivered (h.sheet i) (just_opened (h.draft i)) os
+
+    pub whole_walk : p.pairs ≡ came (same_file Pairs) es → end ≡ walk p
+    whole_walk all = same_walk (pairs_came es) ∙ ap (λ bytes. walked delivered (sheet p) (just_opened (draft p)) (pairs_in bytes)) (sym all)
+
+    -- the first of its pairs
+    pub first_walk : IsFront (pairs_came es) (pairs_in p.pairs) → IsFront (refusal_lines end) (refusal_lines (walk p)) × IsFront (refused_pairs end) (refused_pairs (walk p))
+    first_walk first =
+        let more = goes_on delivered (sheet p) (walked delivered (sheet p) (just_opened (draft p)) (pairs_came es)) first.rest in
+        let all : walked delivered (sheet p) (walked delivered (sheet p) (just_opened (draft p)) (pairs_came es)) first.rest ≡ walk p =
+        sym (fold-append (offered delivered (sheet p)) (just_opened (draft p)) (pairs_came es) first.rest) ∙ ap (walked delivered (sheet p) (just_opened (draft p))) (sym first.parts) in
+        (subst (λ w. IsFront (refusal_lines w) (refusal_lines (walk p))) (sym (same_walk (pairs_came es))) (subst (λ w. IsFront (refusal_lines (walked delivered (sheet p) (just_opened (draft p)) (pairs_came es))) (refusal_lines w)) all more.0),
+        subst (λ w. IsFront (refused_pairs w) (refused_pairs (walk p))) (sym (same_walk (pairs_came es))) (subst (λ w. IsFront (refused_pairs (walked delivered (sheet p) (just_opened (draft p)) (pairs_came es))) (refused_pairs w)) all more.1))
+
+    -- a call fails while they are offered
+    pub stops_offering : (c : Call PlanFile) → FitsFile Pairs p.pairs es → TellsFileInPart (just_opened d) end es c → StopsWith p (λ n. replicate n Pairs) es c
+    stops_offering c fits part =
+        let front = first_walk (part.first p.pairs fits) in
+        let report = report_of p (walk p).found in
+        let lines = front_of_front (printed es) (refusal_lines end) (refusal_lines (walk p)) part.lines front.0 in
+        let pairs = front_of_front (stored es) (refused_pairs end) (refused_pairs (walk p)) part.pairs front.1 in
+        record {
+          text = subst (λ o. IsFront (printed es) o.text) (sym made)
+              (front_of_front (printed es) (refusal_lines (walk p)) (refusal_lines (walk p) ++ report) lines (front_of (refusal_lines (walk p)) report (refusal_lines (walk p) ++ report) refl));
+          stored = subst (λ o. IsFront (stored es) o.stored) (sym made) pairs;
+          pieces = part.files.pieces;
+          files = front_of (files_read es ++ unread c) [] (replicate part.files.pieces Pairs) (sym part.files.each ∙ sym (append-nil (files_read es ++ unread c)));
+          told = λ f is. sym (part.told f is) ∙ ap refusal_lines (same_walk (pairs_came es));
+        }
+
+    -- ---- and then the report, whose events read nothing
+    module _ (gs : List (Event PlanFile)) (quiet : files_read gs ≡ []) where
+      none : All (λ f. same_file Pairs f ≡ false) (files_read gs)
+      none = subst (All (λ f. same_file Pairs f ≡ false)) (sym quiet) (All-nil (λ f. same_file Pairs f ≡ false))
+
+      pub came-both : came (same_file Pairs) (es ++ gs) ≡ came (same_file Pairs) es
+      came-both = flat_map-append (came_by (same_file Pairs)) es gs ∙ ap (λ l. came (same_file Pairs) es ++ l) (not_came (same_file Pairs) gs none) ∙ append-nil (came (same_file Pairs) es)
+
+      pub asked-both : asked (same_file Pairs) (es ++ gs) ≡ asked (same_file Pairs) es
+      asked-both = let a = sum_by-append (asked_by (same_file Pairs)) es gs in let b = not_asked (same_file Pairs) gs none in omega (arith, a, b)
+
+      pub fits-both : FitsFile Pairs p.pairs (es ++ gs) → FitsFile Pairs p.pairs es
+      fits-both fits = sym came-both ∙ fits ∙ ap (λ n. take n p.pairs) asked-both
+
+      pub files-both : files_read (es ++ gs) ≡ files_read es
+      files-both = flat_map-append file_read_by es gs ∙ ap (λ l. files_read es ++ l) quiet ∙ append-nil (files_read es)
