@@ -61,6 +61,7 @@ fn survey(bytes: &[u8], rows: &[Point]) -> Result<(), StepFault>
 }
 
 /// Writes the rows with the ends that their record gives, of which the survey has found no fault.
+#[tactic(auto, using(crate::proofs::NextRow::checks_more_set, crate::proofs::NextRow::ends_more))]
 fn fill(bytes: &[u8], rows: &mut [Point])
     requires few { length rows.old ≤ 65535 }
     requires good { first_fit (rows_checks 0 rows.old bytes.now) ≡ None }

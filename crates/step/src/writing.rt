@@ -15,16 +15,10 @@ use arrayvec::ArrayVec;
 use sheet::{Coords, Draft, POINT_LIMIT, Point, coordinate_of};
 
 /// The length of the longest record of a sheet.
+#[tactic(auto, using(crate::proofs::LongestRecord::rows_most, crate::proofs::LongestRecord::all_move))]
 pub fn record_limit() -> usize
     ensures value { result ≡ record_limit }
     ensures longest { Longest point_limit result }
-{
-    full_record()
-}
-
-/// A map and three fields for each point that a sheet has place for.
-fn full_record() -> usize
-    ensures { result ≡ record_limit }
 {
     7 * POINT_LIMIT as usize
 }
