@@ -1,4 +1,4 @@
-// `Test` alone: no file with a ghost field may import what speaks of the struct.
+// A test within its bounds. What makes one, and its halves, stand in files of their own.
 ghost use Rattle.motion.specs.Laws.{Valid};
 
 use motion::Shape;

@@ -1,4 +1,4 @@
-// The mathematics, as the contract of a function.
+// The mathematics, as the contracts of functions.
 ghost use Rattle.std.specs.Prelude.{◌≡◌, ℕ, Bool, map};
 ghost use Rattle.motion.specs.declared.shapes.Shape.{Shape};
 ghost use Rattle.motion.specs.Laws.{Lawful};
