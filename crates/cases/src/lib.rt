@@ -1,4 +1,5 @@
-//! Cases worked out by hand, of moving features, records, texts and depths: what the rules make of them, as the contract of a function.
+//! Cases worked out by hand, of moving features, records, texts and depths: what the rules make of
+//! them, as the contract of a function.
 #![tactic(auto)]
 
 ghost use Rattle.std.specs.Prelude.{◌≡◌, map, Some};
@@ -8,8 +9,8 @@ use sheet::{Layer, Notice};
 
 /// The faults of seven inputs, as they were worked out by hand: they are those of the rules.
 ///
-/// Each case comes out by the rules as it should (`cases`). Both clauses speak of the definitions that the other crates' contracts cite,
-/// and of no code.
+/// Each case comes out by the rules as it should (`cases`). Both clauses speak of the definitions
+/// that the other crates' contracts cite, and of no code.
 pub fn worked_cases() -> [Notice; 7]
     ensures faults { map Some result ≡ worked_faults }
     ensures cases { Worked }

@@ -1,4 +1,5 @@
-// The filter Plane: the point never comes into the plane of the face, nor one edge into a plane with the other.
+// The filter Plane: the point never comes into the plane of the face, nor one edge into a plane
+// with the other.
 ghost use Rattle.std.specs.Prelude.{◌≡◌, ◌*◌, ◌^◌, pos, ◌+ℤ◌, ◌*ℤ◌};
 ghost use Rattle.motion.specs.Vectors.{◌-ᵛ◌, dot};
 ghost use Rattle.motion.specs.Plane.{d0, d1, n0, n1, 2n̂, normal, combined, controls, all_above, all_below, one_sign, plane_set};
@@ -32,8 +33,9 @@ pub fn controls(test: &Test) -> Controls
     Factors::of(test).combined()
 }
 
-/// What the control values are made of: the point seen from the face at the start and at the end, the face's normals there, and twice
-/// the normal between. Each is as short as the bounds of a test make it.
+/// What the control values are made of: the point seen from the face at the start and at the end,
+/// the face's normals there, and twice the normal between. Each is as short as the bounds of a test
+/// make it.
 #[derive(Clone, Copy)]
 struct Factors {
     d0: V3,

@@ -3,7 +3,8 @@ ghost use Rattle.motion.specs.Laws.{Valid};
 
 use motion::Shape;
 
-/// A test within its bounds: a scale of at most 6, and no coordinate further from zero than 4,096·2^scale.
+/// A test within its bounds: a scale of at most 6, and no coordinate further from zero than
+/// 4,096·2^scale.
 #[derive(Clone, Copy)]
 pub struct Test {
     pub shape: Shape,

@@ -10,10 +10,11 @@ ghost use Rattle.motion.specs.Cases.{values, worked_tests, Cases};
 
 use crate::shapes::Controls;
 
-/// The sets of the three delivered filters keep both laws, what Plane strikes is never in one plane, and Slab's directions are the ones
-/// that its rule describes.
+/// The sets of the three delivered filters keep both laws, what Plane strikes is never in one
+/// plane, and Slab's directions are the ones that its rule describes.
 ///
-/// For any set, the window is the first and the last subinterval that it lacks, and there is none exactly where it has them all (`windows`).
+/// For any set, the window is the first and the last subinterval that it lacks, and there is none
+/// exactly where it has them all (`windows`).
 pub fn laws_hold()
     ensures boxes { Lawful box_set }
     ensures slabs { Lawful slab_set }

@@ -8,7 +8,8 @@ ghost use Rattle.step.specs.Laying.{bit_stands, field_checks, end_in, after_fiel
 use crate::faults::{At, StepFault};
 use sheet::COORDINATE_BOUND;
 
-/// The end of a coordinate that starts at `start`, and the rest of the record. It moves if the map has its bit.
+/// The end of a coordinate that starts at `start`, and the rest of the record. It moves if the map
+/// has its bit.
 pub(crate) fn read_field(
     bytes: &[u8],
     map: u8,

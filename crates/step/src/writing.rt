@@ -23,7 +23,8 @@ pub fn record_limit() -> usize
     7 * POINT_LIMIT as usize
 }
 
-/// Writes the record of the draft's points into the front of `out`, and answers its length; the other bytes are as they were.
+/// Writes the record of the draft's points into the front of `out`, and answers its length; the
+/// other bytes are as they were.
 ///
 /// What is written is a record of these rows, by which their ends come back as they count (`back`).
 pub fn write(draft: &Draft, points: &[Point], out: &mut [u8]) -> Result<usize, WriterFault>
