@@ -6,34 +6,19 @@ use Rattle.filters.proofs.planes.Factors.of.Goals as goal
 
 -- ---- each point is within the bounds of a test
 pub way-requires : goal.way-requires
-way-requires c =
-    let t = c.args.test.now.shape in
-    let v = c.args.test.now.valid in
-    search (a0 t v, a1 t v)
+way-requires c = let t = c.args.test.now in search (a0 t.shape t.valid, a1 t.shape t.valid)
 
 pub way-requires-2 : goal.way-requires-2
-way-requires-2 c =
-    let t = c.args.test.now.shape in
-    let v = c.args.test.now.valid in
-    search (b0 t v, b1 t v)
+way-requires-2 c = let t = c.args.test.now in search (b0 t.shape t.valid, b1 t.shape t.valid)
 
 pub way-requires-3 : goal.way-requires-3
-way-requires-3 c =
-    let t = c.args.test.now.shape in
-    let v = c.args.test.now.valid in
-    search (c0 t v, c1 t v)
+way-requires-3 c = let t = c.args.test.now in search (c0 t.shape t.valid, c1 t.shape t.valid)
 
 pub way-requires-4 : goal.way-requires-4
-way-requires-4 c =
-    let t = c.args.test.now.shape in
-    let v = c.args.test.now.valid in
-    search (a0 t v, p0 t v)
+way-requires-4 c = let t = c.args.test.now in search (a0 t.shape t.valid, p0 t.shape t.valid)
 
 pub way-requires-5 : goal.way-requires-5
-way-requires-5 c =
-    let t = c.args.test.now.shape in
-    let v = c.args.test.now.valid in
-    search (a1 t v, p1 t v)
+way-requires-5 c = let t = c.args.test.now in search (a1 t.shape t.valid, p1 t.shape t.valid)
 
 -- ---- the normals
 pub plus-requires : goal.plus-requires
