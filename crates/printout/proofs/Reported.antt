@@ -7,13 +7,17 @@ use Rattle.hosts.specs.Events.{Event, Call, Reading, Printing, printed, stored, 
 use Rattle.hosts.specs.Works.{Worked, IsFront, IsPrinted, IsPrintedInPart, Prints}
 use Rattle.hosts.proofs.Fronts.{whole, front_of, front_of_front, front_behind}
 use Rattle.hosts.proofs.Histories.{went_on, prints_store_nothing, prints_read_nothing, not_asked, not_came}
-use Rattle.sheet.specs.Checks.{Check, first_fit}
+use Rattle.sheet.specs.Checks.{first_fit}
+use Rattle.sheet.proofs.FirstFit.{past}
 use Rattle.sheet.specs.declared.drafts.Draft.{Draft}
 use Rattle.sheet.specs.declared.rows.Point.{Point}
 use Rattle.sheet.specs.declared.rows.Face.{Face}
 use Rattle.motion.specs.declared.shapes.Shape.{Shape}
 use Rattle.motion.specs.Rows.{delivered}
 use Rattle.inspection.specs.declared.kinds.ListKind.{ListKind}
+use Rattle.inspection.specs.declared.kinds.ListKind.TheVariants.{Vf, Ee}
+use Rattle.inspection.specs.declared.names.VfName.{VfName}
+use Rattle.inspection.specs.declared.names.EeName.{EeName}
 use Rattle.inspection.specs.Claims.{Claim, Findings}
 use Rattle.inspection.specs.Lists.{Contents}
 use Rattle.inspection.specs.Offerings.{Offering}
@@ -22,7 +26,8 @@ use Rattle.inspection.specs.Runs.{Accepted, Run, Opened, opened}
 use Rattle.inspection.specs.Sheets.{Sheet, sheet_in}
 use Rattle.inspection.specs.States.{State, Core, core_at_start}
 use Rattle.inspection.specs.Tests.{Naming, vf_naming, ee_naming}
-use Rattle.report.specs.Reports.{View, AllInside, checks_from, entry_checks, numbered, report_text}
+use Rattle.report.specs.Faults.{place_of}
+use Rattle.report.specs.Reports.{View, check, AllInside, checks_from, entry_checks, entry_limit, len_checks, numbered, report_text}
 use Rattle.printout.specs.Outcomes.{same_file, EndsWith, StopsWith}
 use Rattle.printout.specs.Phases.{FitsFile, HoldsPlan, PairsRan}
 use Rattle.printout.specs.Plans.{Plan, fault, printout, printout_by, sheet, draft, walk, report_of, names_alone, state_found, ClaimOfPlan}
@@ -31,7 +36,7 @@ use Rattle.printout.specs.Walks.{Walk, Found, depth, places, pairs_in, just_open
 use Rattle.printout.specs.declared.endings.Ending.{Ending}
 use Rattle.printout.specs.declared.endings.Ending.TheVariants.{Complete}
 use Rattle.printout.specs.declared.plan_files.PlanFile.{PlanFile}
-use Rattle.printout.specs.declared.plan_files.PlanFile.TheVariants.{Sheet, Step, Pairs}
+use Rattle.printout.specs.declared.plan_files.PlanFile.TheVariants.{Pairs}
 use Rattle.printout.proofs.Telling.{goes_on}
 
 -- ---- no check of the report fits entries that are of the sheet
@@ -41,8 +46,15 @@ inside_not b h = ap not h
 pub no_stray : {E : Type 0} (n : Naming E) (l : ListKind) (v : View) (i : ℕ) (es : List E) → All (λ e. IsTrue (n.inside v.sheet e)) es → first_fit (checks_from n l v i es) ≡ None
 no_stray n l v i [] all = refl
 no_stray n l v i (e ∷ es) all =
-    ap (λ b. if b then Some _ else first_fit (checks_from n l v (i + 1) es)) (inside_not (n.inside v.sheet e) (All-head (λ x. IsTrue (n.inside v.sheet x)) e es all))
+    ap (λ b. if b then Some (check b 19 i (place_of l)).tells else first_fit (checks_from n l v (i + 1) es)) (inside_not (n.inside v.sheet e) (All-head (λ x. IsTrue (n.inside v.sheet x)) e es all))
     ∙ no_stray n l v (i + 1) es (All-tail (λ x. IsTrue (n.inside v.sheet x)) e es all)
+
+pub no_faults : (v : View) (vf : List VfName) (ee : List EeName) → IsFalse v.lacks_rows → AllInside vf_naming v vf → AllInside ee_naming v ee → None ≡ first_fit (len_checks v vf ee)
+no_faults v vf ee rows vfs ees =
+    let first = no_stray vf_naming Vf v 0 (numbered vf) (All-take (λ e. IsTrue (vf_naming.inside v.sheet e)) entry_limit vf vfs) in
+    let second = no_stray ee_naming Ee v 0 (numbered ee) (All-take (λ e. IsTrue (ee_naming.inside v.sheet e)) entry_limit ee ees) in
+    sym (ap (λ b. if b then Some (check b 16 0 0).tells else first_fit (entry_checks vf_naming Vf v vf ++ entry_checks ee_naming Ee v ee)) rows
+    ∙ sym (past (entry_checks vf_naming Vf v vf) (entry_checks ee_naming Ee v ee) (sym first)) ∙ second)
 
 -- ---- the claim looks at nothing of the lists but their names
 pub claim_found : (set : Shape → Bool) (d : Draft) (s : Sheet) (h : List Accepted) (f : Found) (t : State) → t.core ≡ f.core → t.vf.entries ≡ f.vf → t.ee.entries ≡ f.ee → Claim set d s h t → Claim set d s h (state_found f)
@@ -138,3 +150,10 @@ module _ (d : Draft) (ps : List Point) (fs : List Face) where
 
       pub files-both : files_read (es ++ gs) ≡ files_read es
       files-both = flat_map-append file_read_by es gs ∙ ap (λ l. files_read es ++ l) quiet ∙ append-nil (files_read es)
+
+      both-text : (view : View) → (t : State) → Made delivered d ps fs (sheet_in d ps fs) end t
+          → view ≡ record { set = delivered; core = t.core; sheet = sheet_in d ps fs; lacks_rows = lacks_rows d ps fs }
+          → report_text view t.vf.entries t.ee.entries ≡ report_of p end.found
+      both-text view t m is =
+          (λ i. report_text (is i) t.vf.entries t.ee.entries)
+          ∙ (λ i. report_text (record { set = delivered; core = m.core i; sheet = h.sheet i; lacks_rows = m.rows i }) (m.vf i) (m.ee i))
