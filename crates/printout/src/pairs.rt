@@ -1,21 +1,25 @@
 // Offering the pairs of a plan's file.
-ghost use Rattle.std.specs.Prelude.{◌≡◌, ◌<◌, ◌≤◌, ◌%◌, IsFalse, length, IfOk, OnOk};
+ghost use Rattle.std.specs.Prelude.{◌≡◌, ◌<◌, ◌≤◌, ◌%◌, IsFalse, List as Seq, length, IfOk, OnOk};
 ghost use Rattle.sheet.specs.Sheet.{point_limit, face_limit};
 ghost use Rattle.hosts.specs.Works.{Prints};
+ghost use Rattle.motion.specs.Rows.{delivered};
 ghost use Rattle.inspection.specs.Claims.{Findings};
-ghost use Rattle.inspection.specs.Lists.{entries};
+ghost use Rattle.inspection.specs.Lists.{contents_of, entries, without_entries};
+ghost use Rattle.inspection.specs.Offers.{lacks_rows};
+ghost use Rattle.inspection.specs.Sheets.{sheet_in};
 ghost use Rattle.inspection.specs.States.{state_of};
 ghost use Rattle.inspection.specs.Tests.{vf_naming, ee_naming};
 ghost use Rattle.report.specs.Reports.{view_of, AllInside, report_text};
 ghost use Rattle.printout.specs.Phases.{PairsRan};
-ghost use Rattle.printout.specs.Progress.{OffersFile};
+ghost use Rattle.printout.specs.Progress.{Made, OffersFile};
+ghost use Rattle.printout.specs.Walks.{places, just_opened};
 ghost use Rattle.printout.specs.declared.endings.Ending.TheVariants.{Complete};
 
 use crate::endings::Ending;
 use crate::offering::offer_pairs;
 use crate::plan_files::PlanFile;
 use crate::tables::Tables;
-use filters::{Filter, delivered_filter};
+use filters::{Delivered, Filter, delivered_filter};
 use hosts::Host;
 use inspection::{EeName, Inspection, List, VfName};
 use report::print_report;
@@ -69,14 +73,37 @@ pub(crate) fn inspect_pairs<H: Host<File = PlanFile>>(
     let mut ee_places = [EeName::default(); PLACES];
     let mut vf = List::new(&mut vf_places);
     let mut ee = List::new(&mut ee_places);
-    let filter = delivered_filter();
-    let Ok(mut inspection) = Inspection::open(draft, filter, DEPTH, &mut vf, &mut ee) else {
-        unreachable!()
-    };
+    let mut inspection = open_plan(draft, &mut vf, &mut ee);
     let points = &tables.points;
     let faces = &tables.faces;
-    offer_file(&mut inspection, points, faces, &mut vf, &mut ee, &mut tables.pairs, host)?;
+    offer_file(
+        &mut inspection,
+        points,
+        faces,
+        &mut vf,
+        &mut ee,
+        &mut tables.pairs,
+        host,
+    )?;
     print_found(&inspection, points, faces, &vf, &ee, host)
+}
+
+/// Opens the inspection of a plan: it has made no step of its walk.
+fn open_plan(
+    draft: Draft,
+    vf: &mut List<'_, VfName>,
+    ee: &mut List<'_, EeName>,
+) -> Inspection<Delivered>
+    requires vf { length (without_entries (contents_of vf.old)).rest ≡ places }
+    requires ee { length (without_entries (contents_of ee.old)).rest ≡ places }
+    ensures { (ps : Seq Point) (fs : Seq Face) → IsFalse (lacks_rows draft ps fs)
+        → Made delivered draft ps fs (sheet_in draft ps fs) (just_opened draft)
+        (state_of result vf.new ee.new) }
+{
+    let Ok(inspection) = Inspection::open(draft, delivered_filter(), DEPTH, vf, ee) else {
+        unreachable!()
+    };
+    inspection
 }
 
 /// Prints what an inspection has found.
