@@ -8,6 +8,7 @@ use hosts::Host;
 use sheet::Notice;
 
 /// Prints a fault's line.
+#[tactic(auto, using(hosts::proofs::Printing::printed_at_once))]
 pub(crate) fn print_notice<H: Host>(host: &mut H, notice: Notice) -> Result<(), H::Error>
     ensures line { Prints H.does H.fails (notice_line notice) host.old result host.new }
     ensures less { H.most host.new ≤ H.most host.old }

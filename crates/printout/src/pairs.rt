@@ -89,6 +89,7 @@ pub(crate) fn inspect_pairs<H: Host<File = PlanFile>>(
 }
 
 /// Opens the inspection of a plan: it has made no step of its walk.
+#[tactic(auto, using(crate::proofs::Reported::made_none))]
 fn open_plan(
     draft: Draft,
     vf: &mut List<'_, VfName>,

@@ -1,4 +1,7 @@
 // Tables and buffers of a run.
+ghost use Rattle.std.specs.Prelude.{◌≡◌, ◌+◌, ◌%◌, length};
+ghost use Rattle.sheet.specs.Sheet.{text_limit, point_limit, face_limit};
+ghost use Rattle.step.specs.Limit.{record_limit};
 
 use sheet::{Face, Point};
 
@@ -23,8 +26,13 @@ pub struct Tables {
     pub(crate) points: [Point; POINTS],
     pub(crate) faces: [Face; FACES],
     pub(crate) text: [u8; TEXT],
-    pub(crate) record: [u8; RECORD],
+    pub(crate) moves: [u8; RECORD],
     pub(crate) pairs: [u8; PAIRS],
+    ghost point_room: { length points ≡ point_limit },
+    ghost face_room: { length faces ≡ face_limit },
+    ghost text_room: { length text ≡ text_limit + 1 },
+    ghost record_room: { length moves ≡ record_limit + 1 },
+    ghost whole_pairs: { length pairs % 4 ≡ 0 },
 }
 
 impl Tables {
@@ -34,7 +42,7 @@ impl Tables {
             points: [Point::default(); POINTS],
             faces: [Face::default(); FACES],
             text: [0; TEXT],
-            record: [0; RECORD],
+            moves: [0; RECORD],
             pairs: [0; PAIRS],
         }
     }

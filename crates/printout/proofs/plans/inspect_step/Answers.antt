@@ -13,7 +13,7 @@ returns-in_err-n g c =
 pub returns-in-Ok : goal.returns-in-Ok
 returns-in-Ok g c =
     let bytes = take c.in_ok-n.n c.fill.new.buf in
-    let size = length c.args.tables.now.record in
+    let size = length c.args.tables.now.moves in
     let limit : size ≡ record_limit + 1 = omega arith in
     let room : c.args.draft.points ≤ length c.args.tables.now.points = omega arith in
     step_accepted g.H.Host.does g.H.Host.fails c.args.draft c.args.tables.now.points c.args.tables.now.faces c.args.host.now c.fill.new.self c.inspect_pairs.new.host size bytes c.in_ok-n.ensures.read limit room
@@ -23,7 +23,7 @@ returns-in-Ok g c =
 pub returns-in-Err : goal.returns-in-Err
 returns-in-Err g c =
     let bytes = take c.in_ok-n.n c.fill.new.buf in
-    let size = length c.args.tables.now.record in
+    let size = length c.args.tables.now.moves in
     let limit : size ≡ record_limit + 1 = omega arith in
     let room : c.args.draft.points ≤ length c.args.tables.now.points = omega arith in
     step_faulty g.H.Host.does g.H.Host.fails c.args.draft c.args.tables.now.points c.args.tables.now.faces c.args.host.now c.fill.new.self c.tell_fault.new.host size bytes c.in_ok-n.ensures.read limit room
