@@ -15,7 +15,7 @@ use crate::tables::Tables;
 use crate::telling::{tell, tell_fault};
 use hosts::Host;
 use sheet::{Draft, Face, Point};
-use step::{compare_frames, end_at, moving, write};
+use step::{compare_frames, end_at, write};
 
 /// Reads two frames and records the step between them: stores its record, and prints the line that
 /// tells it. Where a frame has a fault, or they differ, it prints the line that tells this instead.
@@ -80,9 +80,25 @@ fn record_between<H: Host>(
         );
     }
     end_at(points, end_points);
-    let len = put_record(start, points, buffer);
+    record_rows(start, points, buffer, host)
+}
+
+/// Stores the record of these rows, which are the draft's points, and then tells it.
+fn record_rows<H: Host>(
+    draft: &Draft,
+    rows: &[Point],
+    buffer: &mut [u8],
+    host: &mut H,
+) -> Result<Recording, H::Error>
+    requires all { length rows.now ≡ draft.now.points }
+    requires few { length rows.now ≤ point_limit }
+    requires room { length buffer.old ≡ record_limit }
+    ensures { let o = recorded rows.now in
+        Writes H.does H.fails (writes_of o) o.answer host.old result host.new }
+{
+    let len = put_record(draft, rows, buffer);
     host.store(&buffer[..len])?;
-    let line = step_line(start.points(), moving(start, points), len);
+    let line = step_line(draft, rows, len);
     tell(line.as_str(), Recording::Recorded, host)
 }
 
