@@ -96,24 +96,21 @@ fn record_rows<H: Host>(
     ensures { let o = recorded rows.now in
         Writes H.does H.fails (writes_of o) o.answer host.old result host.new }
 {
-    let len = put_record(draft, rows, buffer);
-    host.store(&buffer[..len])?;
-    let line = step_line(draft, rows, len);
+    let bytes = record_in(draft, rows, buffer);
+    host.store(bytes)?;
+    let line = step_line(draft, rows, bytes.len());
     tell(line.as_str(), Recording::Recorded, host)
 }
 
-/// Puts the record of these rows, which are the draft's points, into the front of the buffer, and
-/// answers its length.
-fn put_record(draft: &Draft, rows: &[Point], buffer: &mut [u8]) -> usize
+/// The record of these rows, which are the draft's points, written into the buffer.
+fn record_in<'a>(draft: &Draft, rows: &[Point], buffer: &'a mut [u8]) -> &'a [u8]
     requires all { length rows.now ≡ draft.now.points }
     requires few { length rows.now ≤ point_limit }
     requires room { length buffer.old ≡ record_limit }
-    ensures len { result ≡ length (record_of rows.now) }
-    ensures within { result ≤ length buffer.new }
-    ensures front { take result buffer.new ≡ record_of rows.now }
+    ensures { result.now ≡ record_of rows.now }
 {
     let Ok(len) = write(draft, rows, buffer) else {
         unreachable!()
     };
-    len
+    &buffer[..len]
 }

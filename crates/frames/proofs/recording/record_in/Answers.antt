@@ -4,7 +4,7 @@ use Rattle.sheet.specs.Sheet.{point_limit}
 use Rattle.step.specs.Limit.{record_limit}
 use Rattle.step.specs.Record.{record_of}
 use Rattle.step.proofs.LongestRecord.{longest}
-use Rattle.frames.proofs.recording.put_record.Goals as goal
+use Rattle.frames.proofs.recording.record_in.Goals as goal
 
 pub unreachable-requires : goal.unreachable-requires
 unreachable-requires c =
