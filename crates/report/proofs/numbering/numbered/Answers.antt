@@ -1,7 +1,7 @@
 use Rattle.std.proofs.Common.{take, ap, ◌∙◌}
 use Rattle.std.proofs.lemmas.List.{take_min}
 use Rattle.report.specs.Reports.{entry_limit}
-use Rattle.report.proofs.sections.numbered.Goals as goal
+use Rattle.report.proofs.numbering.numbered.Goals as goal
 
 pub returns-clause-front : goal.returns-clause-front
 unfolding entry_limit
