@@ -5,3 +5,5 @@ pub mod Texts
 pub mod Runs
 pub mod Endings
 pub mod Paths
+pub mod Kept
+pub mod Remembered

@@ -1,5 +1,5 @@
 -- The record is stored, and then told.
-use Rattle.std.proofs.Common.{◌≡◌, List, [], ◌∷◌, ℕ, length, Err, Result, subst}
+use Rattle.std.proofs.Common.{◌≡◌, List, [], ◌∷◌, ℕ, Err, Result, subst}
 use Rattle.hosts.specs.Events.{Event, Call, Printed, Stored, Storing}
 use Rattle.hosts.specs.Traces.{CutOff}
 use Rattle.hosts.specs.Writing.{Writes}

@@ -1,5 +1,6 @@
 pub mod Frames
 pub mod Lines
+pub mod Memory
 pub mod Outcomes
 pub mod Reading
 pub mod Works

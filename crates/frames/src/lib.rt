@@ -4,11 +4,13 @@
 
 mod frame_files;
 mod lines;
+mod memory;
 mod reading;
 mod recording;
 mod tables;
 mod telling;
 
 pub use frame_files::{FrameFile, Recording};
+pub use memory::{Recorded, record_frames};
 pub use recording::record_step;
 pub use tables::Tables;

@@ -1,6 +1,6 @@
 -- Writes one after another, and the last of them cut off.
-use Rattle.std.proofs.Common.{◌≡◌, List, [], ◌∷◌, ℕ, Ok, Err, Result, refl, sym, subst}
-use Rattle.hosts.specs.Events.{Event, Printed, Stored, Call, Printing, Storing, files_read}
+use Rattle.std.proofs.Common.{◌≡◌, List, [], ◌∷◌, ◌++◌, ℕ, Ok, Err, Result, refl, sym, ap, subst}
+use Rattle.hosts.specs.Events.{Event, Read, Printed, Stored, Call, Printing, Storing, files_read, printed, stored}
 use Rattle.hosts.specs.Traces.{nothing, next, CutOff}
 use Rattle.hosts.specs.Writing.{BeganTo, at_none, in_a_print, in_a_store, after_print, after_store, Writes, writes}
 use Rattle.hosts.proofs.Histories.{went_first}
@@ -20,6 +20,19 @@ module _ {F : Type 0} where
   files_read-began (in_a_store front rest) = refl
   files_read-began (after_print bytes b) = files_read-began b
   files_read-began (after_store bytes b) = files_read-began b
+
+  -- what is printed and stored stands in the writes
+  pub printed-writes : (es : List (Event F)) → printed (writes es) ≡ printed es
+  printed-writes [] = refl
+  printed-writes (Read f n bytes ∷ es) = printed-writes es
+  printed-writes (Printed bytes ∷ es) = ap (λ bs. bytes ++ bs) (printed-writes es)
+  printed-writes (Stored bytes ∷ es) = printed-writes es
+
+  pub stored-writes : (es : List (Event F)) → stored (writes es) ≡ stored es
+  stored-writes [] = refl
+  stored-writes (Read f n bytes ∷ es) = stored-writes es
+  stored-writes (Printed bytes ∷ es) = stored-writes es
+  stored-writes (Stored bytes ∷ es) = ap (λ bs. bytes ++ bs) (stored-writes es)
 
 module _ {S F E : Type 0} (does : S → Event F → S → Type 0) (fails : S → Call F → E → S → Type 0) where
   module _ {X : Type 0} (s : S) (answer : X) (all : List (Event F)) where
