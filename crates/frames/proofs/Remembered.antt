@@ -8,7 +8,7 @@ use Rattle.hosts.specs.Traces.{Went, nothing, next}
 use Rattle.hosts.proofs.Writing.{printed-writes, stored-writes}
 use Rattle.step.specs.Steps.{Step}
 use Rattle.frames.specs.Frames.{Frames, points_of, step_between}
-use Rattle.frames.specs.Memory.{Holds, HoldsMore, NeverFails}
+use Rattle.frames.specs.Memory.{frames_in, Holds, HoldsMore, NeverFails}
 use Rattle.frames.specs.Outcomes.{Outcome, outcome, with_line_feed, stored_first, writes_of}
 use Rattle.frames.specs.Works.{Records}
 use Rattle.frames.specs.declared.frame_files.FrameFile.{FrameFile}
@@ -25,10 +25,6 @@ printed-writes_of o =
 stored-writes_of : (o : Outcome) → stored {F = FrameFile} (writes_of o) ≡ unwrap_or o.record_stored []
 stored-writes_of o =
     elim o.record_stored as (λ b. stored {F = FrameFile} (stored_first b (Printed (with_line_feed o.line) ∷ [])) ≡ unwrap_or b []) [ None ↦ refl | Some bytes ↦ append-nil bytes ]
-
--- the texts that are left to read
-abbrev pub frames_in : Memory → Frames
-frames_in m = record { start = m.start.now; end = m.end.now }
 
 pub record Remembered (m : Memory) (came : Recording) (n : Memory) : Type 0 where
   pub answer : came ≡ (outcome (frames_in m)).answer

@@ -15,6 +15,9 @@ pub record Frames : Type 0 where
   pub start : List ℕ
   pub end : List ℕ
 
+abbrev pub frames : List ℕ → List ℕ → Frames
+frames s e = record { start = s; end = e }
+
 abbrev pub text_of : Frames → FrameFile → List ℕ
 text_of f Start = f.start
 text_of f End = f.end

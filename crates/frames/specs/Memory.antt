@@ -5,11 +5,15 @@ use Rattle.std.specs.declared.convert.Infallible.{Infallible}
 use Rattle.hosts.specs.Events.{Event, Call, printed, stored, asked}
 use Rattle.hosts.specs.Pages.{Filled}
 use Rattle.hosts.specs.declared.pages.Page.{Page}
-use Rattle.frames.specs.Frames.{Frames}
+use Rattle.frames.specs.Frames.{Frames, frames}
 use Rattle.frames.specs.Works.{same_file, ReadsFrames}
 use Rattle.frames.specs.declared.frame_files.FrameFile.{FrameFile}
 use Rattle.frames.specs.declared.frame_files.FrameFile.TheVariants.{Start, End}
 use Rattle.frames.specs.declared.memory.Memory.{Memory}
+
+-- what is left to read
+abbrev pub frames_in : Memory → Frames
+frames_in m = frames m.start.now m.end.now
 
 -- after these events over two frames, with these two pages at first
 pub record Holds (f : Frames) (kept line : MutBor Page) (es : List (Event FrameFile)) (m : Memory)

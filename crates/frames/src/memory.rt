@@ -2,8 +2,9 @@
 ghost use Rattle.std.specs.Prelude.{◌≡◌, ◌+◌, ◌-◌, ◌^◌, [], length, take, drop, min, IfSome, unwrap_or};
 ghost use Rattle.hosts.specs.Pages.{onto_page, Filled};
 ghost use Rattle.step.specs.Steps.{Step};
-ghost use Rattle.frames.specs.Frames.{Frames, points_of, step_between};
+ghost use Rattle.frames.specs.Frames.{frames, points_of, step_between};
 ghost use Rattle.frames.specs.Outcomes.{outcome, with_line_feed};
+ghost use Rattle.frames.specs.Memory.{frames_in};
 
 use crate::frame_files::{FrameFile, Recording};
 use crate::recording::record_step;
@@ -84,17 +85,17 @@ pub fn record_frames(
     bytes: &mut [u8],
     line: &mut [u8],
 ) -> Recorded
-    ensures answer { let f : Frames = record { start = start.now; end = end.now } in
+    ensures answer { let f = frames start.now end.now in
         result.answer ≡ (outcome f).answer }
-    ensures line { let f : Frames = record { start = start.now; end = end.now } in
+    ensures line { let f = frames start.now end.now in
         line.new ≡ onto_page (with_line_feed (outcome f).line) line.old }
-    ensures line_len { let f : Frames = record { start = start.now; end = end.now } in
+    ensures line_len { let f = frames start.now end.now in
         result.line_len ≡ min (length (with_line_feed (outcome f).line)) (2 ^ 64 - 1) }
-    ensures record_bytes { let f : Frames = record { start = start.now; end = end.now } in
+    ensures record_bytes { let f = frames start.now end.now in
         bytes.new ≡ onto_page (unwrap_or (outcome f).record_stored []) bytes.old }
-    ensures record_len { let f : Frames = record { start = start.now; end = end.now } in
+    ensures record_len { let f = frames start.now end.now in
         result.record_len ≡ min (length (unwrap_or (outcome f).record_stored [])) (2 ^ 64 - 1) }
-    ensures means { let f : Frames = record { start = start.now; end = end.now } in
+    ensures means { let f = frames start.now end.now in
         IfSome (outcome f).record_stored (λ bytes. Step (points_of f.start) bytes (step_between f)) }
 {
     let mut kept = Page::new(bytes);
@@ -115,13 +116,13 @@ pub fn record_frames(
 
 /// Records the step between two frames that are still to be read.
 fn record_in(tables: &mut Tables, memory: &mut Memory<'_, '_, '_, '_, '_, '_>) -> Recording
-    ensures answer { let f : Frames = record { start = memory.old.start.now; end = memory.old.end.now } in
+    ensures answer { let f = frames_in memory.old in
         result ≡ (outcome f).answer }
-    ensures line { let f : Frames = record { start = memory.old.start.now; end = memory.old.end.now } in
+    ensures line { let f = frames_in memory.old in
         Filled memory.old.line.now memory.new.line.now (with_line_feed (outcome f).line) }
-    ensures kept { let f : Frames = record { start = memory.old.start.now; end = memory.old.end.now } in
+    ensures kept { let f = frames_in memory.old in
         Filled memory.old.kept.now memory.new.kept.now (unwrap_or (outcome f).record_stored []) }
-    ensures means { let f : Frames = record { start = memory.old.start.now; end = memory.old.end.now } in
+    ensures means { let f = frames_in memory.old in
         IfSome (outcome f).record_stored (λ bytes. Step (points_of f.start) bytes (step_between f)) }
     ensures same_kept { memory.new.kept.ghost_name ≡ memory.old.kept.ghost_name }
     ensures same_line { memory.new.line.ghost_name ≡ memory.old.line.ghost_name }
