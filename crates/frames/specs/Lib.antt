@@ -1,2 +1,6 @@
+pub mod Frames
 pub mod Lines
-pub mod Recordings
+pub mod Memory
+pub mod Outcomes
+pub mod Reading
+pub mod Works

@@ -2,3 +2,4 @@ pub mod Fronts
 pub mod Histories
 pub mod Printing
 pub mod Showing
+pub mod Writing

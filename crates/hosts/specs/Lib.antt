@@ -2,3 +2,4 @@ pub mod Events
 pub mod Pages
 pub mod Traces
 pub mod Works
+pub mod Writing

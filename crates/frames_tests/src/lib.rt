@@ -1,0 +1,9 @@
+//! Tests of the crate `frames` on examples: in a crate of their own, since a crate with tests is proved twice.
+#![tactic(auto)]
+
+#[cfg(test)]
+mod hosts;
+#[cfg(test)]
+mod recorded;
+#[cfg(test)]
+mod stopped;

@@ -1,0 +1,140 @@
+// What comes of two texts, where all calls go well.
+use crate::hosts::{Failure, TestHost};
+use frames::{FrameFile, Recording, Tables, record_step};
+use std::alloc::Global;
+use std::test::Fail;
+
+const SHEET: &[u8] = b"v 0 0 0\nv 4 0 0\nv 0 4 0\nv 1 1 1\nv 1 1 9\nv 2 1 9\nf 1 2 3\nf 4 5 6\n";
+
+/// A corner of the second face sinks through the first.
+const SUNK: &[u8] = b"v 0 0 0\nv 4 0 0\nv 0 4 0\nv 1 1 -1\nv 1 1 9\nv 2 1 9\nf 1 2 3\nf 4 5 6\n";
+
+/// These calls were made, by their letters, these bytes were stored and printed, and this answered.
+fn comes(
+    alloc: Global,
+    start: &[u8],
+    end: &[u8],
+    letters: &[u8],
+    stored: &[u8],
+    printed: &[u8],
+    answer: Recording,
+) -> Result<(), Fail> {
+    let mut tables = Tables::new();
+    let mut host = TestHost::new(alloc, start, end, 9);
+    let came = record_step(&mut tables, &mut host);
+    if came != Ok(answer) {
+        return Err(Fail::new("another answer"));
+    }
+    if host.log.letters.as_slice() != letters {
+        return Err(Fail::new("other calls"));
+    }
+    if host.stored.as_slice() != stored {
+        return Err(Fail::new("another record"));
+    }
+    if host.printed.as_slice() != printed {
+        return Err(Fail::new("another line"));
+    }
+    Ok(())
+}
+
+#[test]
+fn a_step_is_stored_and_then_told(rt: HostRuntime) -> Result<(), Fail> {
+    comes(
+        rt.alloc(),
+        SHEET,
+        SUNK,
+        b"SEsp",
+        b"\x00\x00\x00\x04\xfe\xff\x00\x00",
+        b"step 6 points, 1 moved, 8 bytes\n",
+        Recording::Recorded,
+    )
+}
+
+#[test]
+fn a_faulty_first_frame_needs_no_second(rt: HostRuntime) -> Result<(), Fail> {
+    comes(
+        rt.alloc(),
+        b"v 1 2",
+        SUNK,
+        b"Sp",
+        b"",
+        b"fault 1 field 1 3\n",
+        Recording::Faulty(FrameFile::Start),
+    )
+}
+
+#[test]
+fn a_faulty_second_frame_is_told(rt: HostRuntime) -> Result<(), Fail> {
+    comes(
+        rt.alloc(),
+        SHEET,
+        b"v 0 0 0\nv 4 0 0\nf 1 1 2\n",
+        b"SEp",
+        b"",
+        b"fault 5 line 3 2\n",
+        Recording::Faulty(FrameFile::End),
+    )
+}
+
+#[test]
+fn differences_are_told(rt: HostRuntime) -> Result<(), Fail> {
+    let corners = b"v 0 0 0\nv 4 0 0\nv 0 4 0\n";
+    let face = b"v 0 0 0\nv 4 0 0\nv 0 4 0\nf 1 2 3\n";
+    let turned = b"v 0 0 0\nv 4 0 0\nv 0 4 0\nf 1 3 2\n";
+    for (start, end, line) in [
+        (
+            SHEET,
+            face.as_slice(),
+            b"the frames have 6 and 3 points\n".as_slice(),
+        ),
+        (
+            corners.as_slice(),
+            face.as_slice(),
+            b"the frames have 0 and 1 faces\n".as_slice(),
+        ),
+        (
+            face.as_slice(),
+            turned.as_slice(),
+            b"the frames differ in face 0\n".as_slice(),
+        ),
+    ] {
+        comes(
+            rt.alloc(),
+            start,
+            end,
+            b"SEp",
+            b"",
+            line,
+            Recording::Different,
+        )?;
+    }
+    Ok(())
+}
+
+#[test]
+fn the_longest_text_is_read(rt: HostRuntime) -> Result<(), Fail> {
+    let text = vec![in rt.alloc(); b'#'; 65536]?;
+    comes(
+        rt.alloc(),
+        text.as_slice(),
+        b"",
+        b"SEsp",
+        b"",
+        b"step 0 points, 0 moved, 0 bytes\n",
+        Recording::Recorded,
+    )
+}
+
+#[test]
+fn a_text_with_one_byte_more_is_too_long(rt: HostRuntime) -> Result<(), Fail> {
+    let text = vec![in rt.alloc(); b'#'; 65537]?;
+    comes(
+        rt.alloc(),
+        text.as_slice(),
+        b"",
+        b"Sp",
+        b"",
+        b"fault 6 sheet 0 0\n",
+        Recording::Faulty(FrameFile::Start),
+    )
+}
