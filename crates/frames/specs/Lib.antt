@@ -1,2 +1,5 @@
+pub mod Frames
 pub mod Lines
-pub mod Recordings
+pub mod Outcomes
+pub mod Reading
+pub mod Works

@@ -1,10 +1,14 @@
-//! Two frames of one sheet, each read from a text, and what comes of them: the record of the step between them.
+//! The work of the program `record`: two frames of one sheet are read, and the record of the step
+//! between them is stored and told.
 #![tactic(auto)]
 
+mod frame_files;
 mod lines;
 mod reading;
-mod recordings;
+mod recording;
+mod tables;
+mod telling;
 
-pub use lines::Line;
-pub use reading::{Frame, deciding_len, read_frame};
-pub use recordings::{Recording, recording_of};
+pub use frame_files::{FrameFile, Recording};
+pub use recording::record_step;
+pub use tables::Tables;

@@ -1,13 +1,15 @@
 // The lines that tell what comes of two frames.
 ghost use Rattle.std.specs.Prelude.{◌≡◌, ◌≤◌, ◌++◌, length, codes, decimal};
+ghost use Rattle.step.specs.Frames.{moving_in};
 ghost use Rattle.frames.specs.Lines.{counts_line, difference_line, step_line};
 
 use arrayvec::ArrayString;
 use itoa::Buffer;
-use step::Difference;
+use sheet::{Draft, Point};
+use step::{Difference, moving};
 
 /// The longest line: its words, a number of five digits and two of twenty.
-pub type Line = ArrayString<73>;
+pub(crate) type Line = ArrayString<73>;
 
 /// The line that tells how two frames differ.
 pub(crate) fn difference_line(difference: Difference) -> Line
@@ -41,16 +43,18 @@ fn counts_line(start: u16, end: u16, things: &str) -> Line
     line
 }
 
-/// The line that tells a step: how many points it has, how many of them move, and the length of its record.
-pub(crate) fn step_line(points: u16, moved: usize, bytes: usize) -> Line
-    ensures { result.bytes ≡ step_line points moved bytes }
+/// The line that tells the step to these rows, which are the draft's points: how many there are, how
+/// many of them move, and the length of its record.
+pub(crate) fn step_line(draft: &Draft, rows: &[Point], bytes: usize) -> Line
+    requires { length rows.now ≡ draft.now.points }
+    ensures { result.bytes ≡ step_line (length rows.now) (moving_in rows.now) bytes }
 {
     let mut digits = Buffer::new();
     let mut line = ArrayString::new();
     line.push_str("step ");
-    line.push_str(digits.format(points));
+    line.push_str(digits.format(draft.points()));
     line.push_str(" points, ");
-    line.push_str(digits.format(moved));
+    line.push_str(digits.format(moving(draft, rows)));
     line.push_str(" moved, ");
     line.push_str(digits.format(bytes));
     line.push_str(" bytes");

@@ -1,63 +1,31 @@
-// A frame, in tables of its own.
-ghost use Rattle.std.specs.Prelude.{◌≡◌, ◌+◌, List, ℕ, length, take, IfOk, None};
-ghost use Rattle.sheet.specs.Checks.{first_fit, fault_notice};
-ghost use Rattle.sheet.specs.Faults.{notice_of_sheet};
-ghost use Rattle.sheet.specs.IsSheet.{IsSheet};
-ghost use Rattle.sheet.specs.Lines.{numbered};
-ghost use Rattle.sheet.specs.Sheet.{text_limit, point_limit, face_limit, sheet_checks, draft_of, points_in, faces_in};
+// Reading a frame.
+ghost use Rattle.std.specs.Prelude.{◌≡◌, ◌+◌, ◌≤◌, length, take, ℕ, List, MatchResult, IfOk};
+ghost use Rattle.hosts.specs.Events.{Read, Reading};
+ghost use Rattle.sheet.specs.Sheet.{text_limit, point_limit, face_limit};
+ghost use Rattle.frames.specs.Reading.{ReadsFrame};
 
-use sheet::{Draft, FACE_LIMIT, Face, POINT_LIMIT, Point, SheetFault, TEXT_LIMIT, read_sheet};
-use std::alloc::{AllocError, Global};
+use crate::frame_files::FrameFile;
+use hosts::Host;
+use sheet::{Draft, Face, Point, SheetFault, read_sheet};
 
-/// A sheet at one moment: its draft, and just its points and faces.
-#[derive(Drop)]
-pub struct Frame {
-    pub draft: Draft,
-    pub points: Vec<Point>,
-    pub faces: Vec<Face>,
-    pub ghost point_count: { draft.points ≡ length points.items },
-    pub ghost is_sheet: { IsSheet points.items faces.items },
-}
-
-/// The frame that a text says, or the text's first fault.
-pub fn read_frame(alloc: Global, text: &[u8]) -> Result<Result<Frame, SheetFault>, AllocError>
-    ensures fault { IfOk result (λ read. fault_notice notice_of_sheet read
-        ≡ first_fit (sheet_checks text.now point_limit face_limit)) }
-    ensures draft { IfOk result (λ read. IfOk read (λ f. f.draft ≡ draft_of text.now)) }
-    ensures points { IfOk result (λ read.
-        IfOk read (λ f. f.points.items ≡ points_in (numbered text.now))) }
-    ensures faces { IfOk result (λ read.
-        IfOk read (λ f. f.faces.items ≡ faces_in (numbered text.now))) }
+/// Reads a frame into the tables, or its first fault.
+pub(crate) fn read_frame<H: Host<File = FrameFile>>(
+    file: FrameFile,
+    text: &mut [u8],
+    points: &mut [Point],
+    faces: &mut [Face],
+    host: &mut H,
+) -> Result<Result<Draft, SheetFault>, H::Error>
+    requires text { length text.old ≡ text_limit + 1 }
+    requires points { length points.old ≡ point_limit }
+    requires faces { length faces.old ≡ face_limit }
+    ensures read { MatchResult result
+        (λ read. (came : List ℕ) × (H.does host.old (Read file (text_limit + 1) came) host.new)
+        × ReadsFrame came points.new faces.new read)
+        (λ e. H.fails host.old (Reading file) e host.new) }
+    ensures point_count { IfOk result (λ read. IfOk read (λ d. d.points ≤ length points.new)) }
+    ensures face_count { IfOk result (λ read. IfOk read (λ d. d.faces ≤ length faces.new)) }
 {
-    let mut points = vec![in alloc; Point::default(); POINT_LIMIT as usize]?;
-    let mut faces = vec![in alloc; Face::default(); FACE_LIMIT as usize]?;
-    match read_sheet(text, points.as_mut_slice(), faces.as_mut_slice()) {
-        Ok(draft) => {
-            points.truncate(draft.points() as usize);
-            faces.truncate(draft.faces() as usize);
-            Ok(Ok(Frame {
-                draft,
-                points,
-                faces,
-            }))
-        }
-        Err(fault) => Ok(Err(fault)),
-    }
-}
-
-/// How many bytes of a text decide: its front of that length has the fault of the whole, and without a fault it is the whole.
-pub fn deciding_len() -> usize
-    ensures fault { (text : List ℕ)
-        → first_fit (sheet_checks (take result text) point_limit face_limit)
-        ≡ first_fit (sheet_checks text point_limit face_limit) }
-    ensures whole { (text : List ℕ) → first_fit (sheet_checks text point_limit face_limit) ≡ None
-        → take result text ≡ text }
-{
-    one_past_the_limit()
-}
-
-fn one_past_the_limit() -> usize
-    ensures { result ≡ text_limit + 1 }
-{
-    TEXT_LIMIT + 1
+    let count = host.fill(file, text)?;
+    Ok(read_sheet(&text[..count], points, faces))
 }

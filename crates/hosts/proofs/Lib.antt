@@ -1,2 +1,4 @@
 pub mod Histories
 pub mod Printing
+pub mod Showing
+pub mod Writing

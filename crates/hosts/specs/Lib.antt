@@ -1,3 +1,5 @@
 pub mod Events
+pub mod Pages
 pub mod Traces
 pub mod Works
+pub mod Writing

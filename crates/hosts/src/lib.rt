@@ -2,5 +2,7 @@
 #![tactic(auto)]
 
 mod hosts;
+mod pages;
 
 pub use hosts::Host;
+pub use pages::Page;

@@ -1,10 +1,12 @@
 // The window of an entry.
-ghost use Rattle.std.specs.Prelude.{◌≡◌};
+ghost use Rattle.std.specs.Prelude.{◌≡◌, Some, slice_get, IfOk};
+ghost use Rattle.sheet.specs.Checks.{first_fit, fault_notice};
 ghost use Rattle.motion.specs.Depths.{window_at};
-ghost use Rattle.inspection.specs.Sheets.{sheet_of_rows};
-ghost use Rattle.inspection.specs.Lists.{contents_of};
+ghost use Rattle.inspection.specs.Faults.{notice_of_window};
+ghost use Rattle.inspection.specs.Sheets.{sheet_of_rows, sheet_in};
+ghost use Rattle.inspection.specs.Lists.{contents_of, entries};
 ghost use Rattle.inspection.specs.States.{core_of};
-ghost use Rattle.inspection.specs.Windows.{WindowAnswer};
+ghost use Rattle.inspection.specs.Windows.{WindowAnswer, window_checks};
 
 use super::Inspection;
 use crate::faults::WindowFault;
@@ -28,6 +30,26 @@ impl<F: Filter> Inspection<F> {
         ensures { WindowAnswer E.naming points.now faces.now (core_of self.now)
             (contents_of list.now) entry (F.Filter.struck self.now.filter) result }
     {
+        let (e, rows) = self.checked_entry(points, faces, list, entry)?;
+        Ok(self.window_of(e, rows))
+    }
+
+    /// An entry whose window can be told, and the rows that its numbers are of: the checks of
+    /// `window`, and no window.
+    pub fn checked_entry<'a, E: TestName>(
+        &self,
+        points: &'a [Point],
+        faces: &'a [Face],
+        list: &List<'_, E>,
+        entry: u32,
+    ) -> Result<(E, Rows<'a>), WindowFault>
+        ensures fault { fault_notice notice_of_window result
+            ≡ first_fit (window_checks E.naming points.now faces.now (core_of self.now)
+            (contents_of list.now) entry) }
+        ensures entry { IfOk result (λ x. slice_get (entries list.now) entry ≡ Some x.0) }
+        ensures rows { IfOk result (λ x.
+            sheet_of_rows x.1 ≡ sheet_in (core_of self.now).draft points.now faces.now) }
+    {
         let Some(rows) = Rows::of(&self.draft, points, faces) else {
             return Err(WindowFault::TableTooShort);
         };
@@ -37,7 +59,7 @@ impl<F: Filter> Inspection<F> {
         if !e.is_inside(rows) {
             return Err(WindowFault::NotOfTheSheet(entry));
         }
-        Ok(self.window_of(e, rows))
+        Ok((e, rows))
     }
 
     fn window_of<E: TestName>(&self, e: E, rows: Rows<'_>) -> Option<(u8, u8)>

@@ -1,0 +1,27 @@
+-- What comes of a frame's text of which the first bytes came.
+use Rattle.std.specs.Prelude.{◌≡◌, ℕ, ◌+◌, List, take, Some, None, Ok, Err, Result}
+use Rattle.sheet.specs.Faults.{notice_of_sheet}
+use Rattle.sheet.specs.IsSheet.{IsSheet}
+use Rattle.sheet.specs.Sheet.{text_limit, draft_of}
+use Rattle.sheet.specs.declared.drafts.Draft.{Draft}
+use Rattle.sheet.specs.declared.faults.SheetFault.{SheetFault}
+use Rattle.sheet.specs.declared.rows.Face.{Face}
+use Rattle.sheet.specs.declared.rows.Point.{Point}
+use Rattle.frames.specs.Frames.{frame_fault, points_of, faces_of}
+
+-- tables whose first rows are the frame of a text
+pub record IsFrame (text : List ℕ) (ps : List Point) (fs : List Face) (d : Draft) : Type 0 where
+  pub no_fault : frame_fault text ≡ None
+  pub draft : d ≡ draft_of text
+  pub points : take d.points ps ≡ points_of text
+  pub faces : take d.faces fs ≡ faces_of text
+  pub is_sheet : IsSheet (points_of text) (faces_of text)
+
+abbrev pub Says : List ℕ → List Point → List Face → Result Draft SheetFault → Type 0
+Says text ps fs (Ok d) = IsFrame text ps fs d
+Says text ps fs (Err fault) = frame_fault text ≡ Some (notice_of_sheet fault)
+
+-- the whole text says so, whatever it has past what came
+abbrev pub ReadsFrame : List ℕ → List Point → List Face → Result Draft SheetFault → Type 0
+ReadsFrame came ps fs read =
+    (text : List ℕ) → came ≡ take (text_limit + 1) text → Says text ps fs read

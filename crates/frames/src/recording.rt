@@ -1,0 +1,119 @@
+// The record of the step between two frames.
+ghost use Rattle.std.specs.Prelude.{◌≡◌, ◌≤◌, length, take};
+ghost use Rattle.hosts.specs.Writing.{Writes};
+ghost use Rattle.sheet.specs.Sheet.{point_limit};
+ghost use Rattle.step.specs.Frames.{difference_of, ending_at};
+ghost use Rattle.step.specs.Limit.{record_limit};
+ghost use Rattle.step.specs.Record.{record_of};
+ghost use Rattle.frames.specs.Outcomes.{unless_different, recorded, writes_of};
+ghost use Rattle.frames.specs.Works.{Records};
+
+use crate::frame_files::{FrameFile, Recording};
+use crate::lines::{difference_line, step_line};
+use crate::reading::read_frame;
+use crate::tables::Tables;
+use crate::telling::{tell, tell_fault};
+use hosts::Host;
+use sheet::{Draft, Face, Point};
+use step::{compare_frames, end_at, write};
+
+/// Reads two frames and records the step between them: stores its record, and prints the line that
+/// tells it. Where a frame has a fault, or they differ, it prints the line that tells this instead.
+pub fn record_step<H: Host<File = FrameFile>>(
+    tables: &mut Tables,
+    host: &mut H,
+) -> Result<Recording, H::Error>
+    ensures { Records H.does H.fails host.old result host.new }
+{
+    let Tables {
+        text,
+        start_points,
+        start_faces,
+        end_points,
+        end_faces,
+        record,
+    } = tables;
+    let start = match read_frame(FrameFile::Start, text, start_points, start_faces, host)? {
+        Ok(draft) => draft,
+        Err(fault) => return tell_fault(fault, FrameFile::Start, host),
+    };
+    let end = match read_frame(FrameFile::End, text, end_points, end_faces, host)? {
+        Ok(draft) => draft,
+        Err(fault) => return tell_fault(fault, FrameFile::End, host),
+    };
+    record_between(
+        &start,
+        &mut start_points[..start.points() as usize],
+        &start_faces[..start.faces() as usize],
+        &end,
+        &end_points[..end.points() as usize],
+        &end_faces[..end.faces() as usize],
+        record,
+        host,
+    )
+}
+
+/// Stores and tells the record of the step between two frames, or tells how they differ.
+fn record_between<H: Host>(
+    start: &Draft,
+    points: &mut [Point],
+    faces: &[Face],
+    end: &Draft,
+    end_points: &[Point],
+    end_faces: &[Face],
+    buffer: &mut [u8],
+    host: &mut H,
+) -> Result<Recording, H::Error>
+    requires points { length points.old ≡ start.now.points }
+    requires few { length points.old ≤ point_limit }
+    requires room { length buffer.old ≡ record_limit }
+    ensures { let rows = ending_at points.old end_points.now in
+        let difference = difference_of start.now faces.now end.now end_faces.now in
+        let o = unless_different difference (recorded rows) in
+        Writes H.does H.fails (writes_of o) o.answer host.old result host.new }
+{
+    if let Some(difference) = compare_frames(start, faces, end, end_faces) {
+        return tell(
+            difference_line(difference).as_str(),
+            Recording::Different,
+            host,
+        );
+    }
+    end_at(points, end_points);
+    record_rows(start, points, buffer, host)
+}
+
+/// Stores the record of these rows, which are the draft's points, and then tells it.
+fn record_rows<H: Host>(
+    draft: &Draft,
+    rows: &[Point],
+    buffer: &mut [u8],
+    host: &mut H,
+) -> Result<Recording, H::Error>
+    requires all { length rows.now ≡ draft.now.points }
+    requires few { length rows.now ≤ point_limit }
+    requires room { length buffer.old ≡ record_limit }
+    ensures { let o = recorded rows.now in
+        Writes H.does H.fails (writes_of o) o.answer host.old result host.new }
+{
+    let len = put_record(draft, rows, buffer);
+    host.store(&buffer[..len])?;
+    let line = step_line(draft, rows, len);
+    tell(line.as_str(), Recording::Recorded, host)
+}
+
+/// Puts the record of these rows, which are the draft's points, into the front of the buffer, and
+/// answers its length.
+fn put_record(draft: &Draft, rows: &[Point], buffer: &mut [u8]) -> usize
+    requires all { length rows.now ≡ draft.now.points }
+    requires few { length rows.now ≤ point_limit }
+    requires room { length buffer.old ≡ record_limit }
+    ensures len { result ≡ length (record_of rows.now) }
+    ensures within { result ≤ length buffer.new }
+    ensures front { take result buffer.new ≡ record_of rows.now }
+{
+    let Ok(len) = write(draft, rows, buffer) else {
+        unreachable!()
+    };
+    len
+}
