@@ -1,3 +1,4 @@
+pub mod Fronts
 pub mod Histories
 pub mod Printing
 pub mod Showing

@@ -1,11 +1,11 @@
 -- Texts that are printed in pieces.
-use Rattle.std.proofs.Common.{ℕ, List, [], ◌∷◌, ◌++◌, Ok, Err, Result, MatchResult, refl, sym, ap, ◌∙◌, append_assoc}
+use Rattle.std.proofs.Common.{◌≡◌, ℕ, List, [], ◌∷◌, ◌++◌, Ok, Err, Result, MatchResult, refl, sym, ap, ◌∙◌, subst, append_assoc}
 use Rattle.std.proofs.lemmas.List.{append-nil}
 use Rattle.std.proofs.lemmas.List.Elements.{All-append, All-cons, All-nil}
 use Rattle.std.proofs.lemmas.List.Concat.{flat_map-append}
 use Rattle.hosts.specs.Events.{Event, Printed, printed, printed_by, Call, Printing}
 use Rattle.hosts.specs.Traces.{nothing, next, CutOff}
-use Rattle.hosts.specs.Works.{IsPrint, Prints}
+use Rattle.hosts.specs.Works.{IsPrint, IsPrintedInPart, Stopped, Prints}
 use Rattle.hosts.proofs.Histories.{went_on}
 
 module _ {S F E : Type 0} (does : S → Event F → S → Type 0) (fails : S → Call F → E → S → Type 0) where
@@ -81,3 +81,8 @@ module _ {S F E : Type 0} (does : S → Event F → S → Type 0) (fails : S →
           failed = p.part.failed;
         };
       }
+
+  pub printed_short : {Y : Type 0} (s t : S) (first second : List ℕ) (e : E) (r : Result Y E)
+      → Stopped does fails (IsPrintedInPart first) s e t → r ≡ Err e → Prints does fails (first ++ second) s r t
+  printed_short {Y} s t first second e r p is =
+      subst (λ r. Prints does fails (first ++ second) s r t) (sym is) (printed_no_further Y Y s t first second e p)

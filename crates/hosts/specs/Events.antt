@@ -14,6 +14,12 @@ pub data Call (F : Type 0) : Type 0 where
   Printing : Call F
   Storing : Call F
 
+-- the file that could not be read, if it was reading that failed
+abbrev pub unread : {F : Type 0} → Call F → List F
+unread (Reading f) = f ∷ []
+unread Printing = []
+unread Storing = []
+
 -- ---- of one event
 abbrev pub printed_by : {F : Type 0} → Event F → List ℕ
 printed_by (Read f n bytes) = []

@@ -27,6 +27,11 @@ module _ {S F E : Type 0} (does : S → Event F → S → Type 0) (fails : S →
   Worked Good Part s (Ok x) t = Finished Good s x t
   Worked Good Part s (Err e) t = Stopped Part s e t
 
+-- a front of it
+pub record IsFront {X : Type 0} (front whole : List X) : Type 0 where
+  pub rest : List X
+  pub parts : whole ≡ front ++ rest
+
 -- ---- a work that prints a text, and does nothing else
 abbrev pub IsPrint : {F : Type 0} → Event F → Type 0
 IsPrint (Read f n bytes) = ⊥

@@ -2,6 +2,7 @@ pub mod Coordinates
 pub mod Going
 pub mod Offering
 pub mod Working
+pub mod Inside
 pub mod Standing
 pub mod NamingLaws
 pub mod VfNames

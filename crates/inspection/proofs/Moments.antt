@@ -177,10 +177,10 @@ module _ (set : Shape → Bool) (d : Draft) (sheet : Sheet) where
   moment (opened {s} o) = at-opening s o
   moment (depth_set {h} {s} k r t run a v e) =
       subst₂ (λ x y. Moment set d sheet h (record { core = t.core; vf = x; ee = y })) (sym v) (sym e) (at-other-depth h s k r t.core a (moment run))
-  moment (offered {h} {s} ps fs w (Ok tt) h' t run b o e) =
+  moment (offered {h} {s} ps fs w (Ok tt) t run b o) =
       let m : Moment set d sheet h s = moment run in
       let none = none_fits (offer_checks set ps fs w s) (sym o.fault) in
       let brought = subst (λ (x : Draft). Brings x ps fs sheet) (sym m.draft) b (tables-there set ps fs w s none) in
-      subst₂ (Moment set d sheet) (sym e) (ap (λ (x : Sheet). state_after set x w s) (sym brought) ∙ sym o.state) (one_offer h s ps fs w brought none m)
-  moment (offered {h} {s} ps fs w (Err x) h' t run b o e) = subst₂ (Moment set d sheet) (sym e) (sym o.state) (moment run)
+      subst (Moment set d sheet (h ++ (record { what = w; depth = s.core.depth } ∷ []))) (ap (λ (x : Sheet). state_after set x w s) (sym brought) ∙ sym o.state) (one_offer h s ps fs w brought none m)
+  moment (offered {h} {s} ps fs w (Err x) t run b o) = subst (Moment set d sheet h) (sym o.state) (moment run)
   moment (asked {h} {s} t run e) = subst (Moment set d sheet h) (sym e) (moment run)

@@ -74,7 +74,7 @@ module _ (set : Shape → Bool) (ps : List Point) (fs : List Face) where
         let a = w.1.0 in
         by-offer h f g x qs rs s u t a
         (worked-runs (history_after h (Faces f g) s.core.depth x) qs rs u t
-        (offered ps fs (Faces f g) x (history_after h (Faces f g) s.core.depth x) u r (λ b. refl) a refl) w.1.1)
+        (offered ps fs (Faces f g) x u r (λ b. refl) a) w.1.1)
     worked-runs h (request.Offer f g ∷ qs) (answer.DepthSet x ∷ rs) s t r w = absurd w.1.0
     worked-runs h (request.Offer f g ∷ qs) (answer.Window x ∷ rs) s t r w = absurd w.1.0
     worked-runs h (request.Window Vf i ∷ qs) (answer.Window x ∷ rs) s t r w =

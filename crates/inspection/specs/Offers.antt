@@ -44,16 +44,20 @@ module _ {E : Type 0} (n : Naming E) (set : Shape → Bool) (d : ℕ) (s : Sheet
   lacks_room h = nat_lt (length h.rest) (length (entries_by h.entries) - length h.entries)
 
 -- ---- the checks
--- all but the last
-abbrev pub checks_but_room : Draft → List Point → List Face → Offering → ℕ → List Check
-checks_but_room d ps fs (Faces f g) accepted =
-    check (lacks_rows d ps fs) 16 Offer 0
-    ∷ check (nat_le d.faces f) 17 Offer f
+-- of what is offered, over a sheet of this draft
+abbrev pub pair_checks : Draft → Sheet → Offering → ℕ → List Check
+pair_checks d s (Faces f g) accepted =
+    check (nat_le d.faces f) 17 Offer f
     ∷ check (nat_le d.faces g) 17 Offer g
     ∷ check (f == g) 18 Offer f
-    ∷ check (not (corners_below d.points (face_at (sheet_in d ps fs) f))) 19 Offer f
-    ∷ check (not (corners_below d.points (face_at (sheet_in d ps fs) g))) 19 Offer g
+    ∷ check (not (corners_below d.points (face_at s f))) 19 Offer f
+    ∷ check (not (corners_below d.points (face_at s g))) 19 Offer g
     ∷ check (nat_le offer_limit accepted) 20 Offer 0 ∷ []
+
+-- all but the last
+abbrev pub checks_but_room : Draft → List Point → List Face → Offering → ℕ → List Check
+checks_but_room d ps fs o accepted =
+    check (lacks_rows d ps fs) 16 Offer 0 ∷ pair_checks d (sheet_in d ps fs) o accepted
 
 abbrev pub room_check : (Shape → Bool) → Sheet → Offering → State → Check
 room_check set s o st =

@@ -59,9 +59,9 @@ pub data Run (set : Shape → Bool) (d : Draft) (sheet : Sheet)
       → Run set d sheet h t
   -- something is offered, over tables that bring the sheet; it is accepted or refused
   offered : {h : List Accepted} {s : State} (ps : List Point) (fs : List Face) (o : Offering)
-      (r : Result (Unit {0}) OfferFault) (h' : List Accepted) (t : State)
+      (r : Result (Unit {0}) OfferFault) (t : State)
       → Run set d sheet h s → Brings d ps fs sheet → OfferStep set ps fs o s r t
-      → h' ≡ history_after h o s.core.depth r → Run set d sheet h' t
+      → Run set d sheet (history_after h o s.core.depth r) t
   -- a question: any call that leaves all of this as it was
   asked : {h : List Accepted} {s : State} (t : State)
       → Run set d sheet h s → t ≡ s → Run set d sheet h t

@@ -29,7 +29,7 @@ impl<'a, F: Filter> Judge<'a, F> {
 
     /// Whether the filter strikes a test of the sheet at the depth.
     fn strikes<E: TestName>(&self, e: E) -> bool
-        ensures { result ≡ (rules_of F.struck E.naming E.same self.now).struck e }
+        ensures { result ≡ (rules_of F.struck E.naming self.now).struck e }
     {
         let test = e.test(self.rows);
         let Some(struck) = struck_at(self.filter, &test, self.depth) else {
@@ -40,7 +40,7 @@ impl<'a, F: Filter> Judge<'a, F> {
 
     /// The class of a test: `old` are the list's entries, `new` those that the offer adds so far.
     fn class_of<E: TestName>(&self, e: E, old: &[E], new: &[E]) -> Class
-        ensures { let rules = rules_of F.struck E.naming E.same self.now in
+        ensures { let rules = rules_of F.struck E.naming self.now in
             result ≡ class_of rules (old.now ++ new.now) e }
     {
         if e.is_shared(self.rows) {
@@ -64,9 +64,9 @@ impl<'a, F: Filter> Judge<'a, F> {
     ) -> (ArrayVec<E, N>, Tally)
         requires room { length tests.now ≤ N }
         requires few { length tests.now ≤ 9 }
-        ensures entries { let rules = rules_of F.struck E.naming E.same self.now in
+        ensures entries { let rules = rules_of F.struck E.naming self.now in
             entries list.now ++ result.0.items ≡ entries_after rules (entries list.now) tests.now }
-        ensures tally { let rules = rules_of F.struck E.naming E.same self.now in
+        ensures tally { let rules = rules_of F.struck E.naming self.now in
             result.1 ≡ tally_after rules (entries list.now) tests.now no_tests }
         ensures total { total result.1 ≡ length tests.now }
     {

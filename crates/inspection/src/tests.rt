@@ -1,7 +1,7 @@
 // The tests that names stand for.
-ghost use Rattle.std.specs.Prelude.{◌≡◌};
+ghost use Rattle.std.specs.Prelude.{◌≡◌, refl};
 ghost use Rattle.motion.specs.Laws.{InReach};
-ghost use Rattle.inspection.specs.Sheets.{sheet_of_rows};
+ghost use Rattle.inspection.specs.Sheets.{Sheet, sheet_of_rows};
 ghost use Rattle.inspection.specs.Tests.{Naming, corners_below, vf_naming, ee_naming};
 
 use crate::entries::Entry;
@@ -26,12 +26,21 @@ pub trait TestName: Entry {
 
     /// The test that it names.
     fn test(self, rows: Rows<'_>) -> Test
-        ensures shape { result.shape ≡ naming.shape (sheet_of_rows rows.entry) self }
-        ensures scale { result.shape.scale ≡ 0 };
+        ensures { result.shape ≡ naming.shape (sheet_of_rows rows.entry) self };
+
+    // at the scale of the sheet
+    ghost unscaled: { (s : Sheet) (x : Self) → (naming.shape s x).scale ≡ 0 };
+
+    // names are the same as entries are
+    ghost sameness: { naming.same ≡ Self.same };
 }
 
 impl TestName for VfName {
     ghost naming = { vf_naming };
+
+    ghost unscaled = { λ s x. refl };
+
+    ghost sameness = { refl };
 
     fn is_inside(self, rows: Rows<'_>) -> bool {
         (self.point as usize) < rows.points()
@@ -55,6 +64,10 @@ impl TestName for VfName {
 
 impl TestName for EeName {
     ghost naming = { ee_naming };
+
+    ghost unscaled = { λ s x. refl };
+
+    ghost sameness = { refl };
 
     fn is_inside(self, rows: Rows<'_>) -> bool {
         let n = rows.points();

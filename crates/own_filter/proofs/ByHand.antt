@@ -107,8 +107,7 @@ module _ (set : Shape → Bool) (d : Draft) (ps : List Point) (fs : List Face) (
       let h2 : List Accepted = history_after h1 (Faces f f) t.core.depth x in
       let h3 : List Accepted = history_after h2 (Faces g f) v.core.depth y in
       let run : Run set d sheet h3 w
-      = offered ps fs (Faces g f) y h3 w (depth_set 3 z v (offered ps fs (Faces f f) x h2 u (offered ps fs (Faces f g) (Ok tt) h1 t (opened o) (λ i. refl) a refl) (λ i. refl) b refl) c p q)
-      (λ i. refl) r refl in
+      = offered ps fs (Faces g f) y w (depth_set 3 z v (offered ps fs (Faces f f) x u (offered ps fs (Faces f g) (Ok tt) t (opened o) (λ i. refl) a) (λ i. refl) b) c p q) (λ i. refl) r in
       let same : h3 ≡ history_after (one_way f g ∷ []) (Faces g f) 3 y
       = (λ i. history_after (same-history t u x h1 t.core.depth b i) (Faces g f) (depth-three u.core v.core z c i).depth y)
       ∙ (λ i. history_after (record { what = Faces f g; depth = two i } ∷ []) (Faces g f) 3 y) in

@@ -1,147 +1,289 @@
--- A run goes on where a file has no fault, and ends where it has one.
-use Rattle.std.proofs.Common.{◌≡◌, ℕ, List, [], take, Some, None, Option, Ok, Err, Result, IfOk, OnOk, length, ap, ◌∙◌, subst, refl}
-use Rattle.std.proofs.lemmas.List.{length-replicate}
-use Rattle.sheet.specs.Checks.{first_fit}
-use Rattle.sheet.specs.Lines.{numbered}
-use Rattle.sheet.specs.Sheet.{point_limit, face_limit, sheet_checks, draft_of, points_in, faces_in, onto_front}
-use Rattle.sheet.specs.declared.notices.Notice.{Notice}
+-- The pairs of a file, offered piece by piece.
+use Rattle.std.proofs.Common.{◌≡◌, ◌⊎◌, inl, inr, ℕ, ◌+◌, ◌-◌, ◌*◌, ◌<◌, ◌≤◌, Bool, false, if◌then◌else◌, List, [], ◌∷◌, ◌++◌, All, length, take, drop, replicate, flat_map, Ok, Err, Result, refl, sym, ap, ◌∙◌, subst, arith, append_assoc, append-nil, length-append, length-take}
+use Rattle.std.proofs.Math.Nat.{eq-or-lt_of_le}
+use Rattle.std.proofs.lemmas.List.{take_all, take-append-drop, replicate-append-replicate}
+use Rattle.std.proofs.lemmas.List.Concat.{flat_map-append}
+use Rattle.std.proofs.lemmas.List.Elements.{All-nil}
+use Rattle.std.proofs.lemmas.List.Sums.{sum_by-append, sum_by-cons, fold-append}
+use Rattle.hosts.specs.Events.{Event, Read, Call, Reading, printed, stored, files_read, unread, asked, came, printed_by, stored_by, file_read_by, asked_by, came_by}
+use Rattle.hosts.specs.Traces.{Went, nothing, next}
+use Rattle.hosts.specs.Works.{Worked, Finished, Stopped, IsFront}
+use Rattle.hosts.proofs.Fronts.{whole, front_of}
+use Rattle.hosts.proofs.Histories.{went_on, not_asked, not_came}
 use Rattle.sheet.specs.declared.drafts.Draft.{Draft}
 use Rattle.sheet.specs.declared.rows.Point.{Point}
 use Rattle.sheet.specs.declared.rows.Face.{Face}
-use Rattle.step.specs.Laying.{lay_checks, with_ends}
-use Rattle.inspection.specs.Sheets.{nowhere, no_face}
-use Rattle.printout.specs.Printouts.{Printed, lines_then}
-use Rattle.printout.specs.Pairs.{pairs_in, first_state, printed_from, ClaimOfPairs}
-use Rattle.printout.specs.Plans.{empty_points, empty_faces, text_in, record_in, unless_fault, step_fault, points_laid, printed_after_sheet, sheet_fault, draft_read, points_read, faces_read, printout_of, FromPairs, FromStep, FromPlan, ClaimOfPlan, file_of}
-use Rattle.printout.specs.declared.sources.PlanFile.{PlanFile}
-use Rattle.printout.specs.declared.sources.PlanFile.TheVariants.{Sheet, Step}
+use Rattle.motion.specs.declared.shapes.Shape.{Shape}
+use Rattle.inspection.specs.Offerings.{Offering, Faces}
+use Rattle.inspection.specs.PairBytes.{number_of}
+use Rattle.inspection.specs.Sheets.{Sheet}
+use Rattle.inspection.specs.States.{State}
+use Rattle.printout.specs.Outcomes.{same_file}
+use Rattle.printout.specs.Progress.{Made, Tells, TellsInPart, Offers, pairs_came, ReadsPairs, CameWhole, TellsFile, TellsFileInPart, OffersFile}
+use Rattle.printout.specs.Walks.{Walk, pairs_in, offered, walked, refusal_lines, refused_pairs}
+use Rattle.printout.specs.declared.plan_files.PlanFile.{PlanFile}
+use Rattle.printout.specs.declared.plan_files.PlanFile.TheVariants.{Pairs}
 
-pub ok_if : {X E : Type 0} {P : X → Type 0} {Q : Type 0} (r : Result X E) → ((x : X) → P x → Q) → IfOk r P → OnOk r Q
-ok_if (Ok x) f p = f x p
-ok_if (Err e) f p = tt
+-- ---- pairs in bytes
+pub pairs_in-append : (n : ℕ) (xs ys : List ℕ) → length xs ≡ 4 * n → pairs_in (xs ++ ys) ≡ pairs_in xs ++ pairs_in ys
+pairs_in-append n [] ys e = refl
+pairs_in-append n (a ∷ []) ys e = absurd (omega arith)
+pairs_in-append n (a ∷ b ∷ []) ys e = absurd (omega arith)
+pairs_in-append n (a ∷ b ∷ c ∷ []) ys e = absurd (omega arith)
+pairs_in-append n (a ∷ b ∷ c ∷ d ∷ xs) ys e =
+    ap (λ os. Faces (number_of a b) (number_of c d) ∷ os) (pairs_in-append (n - 1) xs ys (omega arith))
 
-pub if_ok : {X E : Type 0} {P Q : X → Type 0} (r : Result X E) → ((x : X) → P x → Q x) → IfOk r P → IfOk r Q
-if_ok (Ok x) f p = f x p
-if_ok (Err e) f p = tt
+-- fewer bytes than were asked for: they are all
+pub short_is_all : (n : ℕ) (bytes all : List ℕ) → bytes ≡ take n all → length bytes < n → all ≡ bytes
+short_is_all n bytes all e short =
+    sym (take_all n all (omega (arith, ap length e, length-take n all))) ∙ sym e
 
-never : {X : Type 0} {P : Type 0} (x : X) (o : Option X) → Some x ≡ o → o ≡ None → P
-never x None e n = absurd (some_none x e)
+-- whole pairs that are a front of a file: they are the first of its pairs
+pub first_pairs : (n k : ℕ) (bytes all : List ℕ) → bytes ≡ take k all → length bytes ≡ 4 * n → IsFront (pairs_in bytes) (pairs_in all)
+first_pairs n k bytes all e fours =
+    let later = drop k all in
+    record {
+      rest = pairs_in later;
+      parts = ap pairs_in (sym (take-append-drop k all) ∙ ap (λ l. l ++ later) (sym e)) ∙ pairs_in-append n bytes later fours;
+    }
+
+-- ---- the events of one piece: it is read, and then its pairs are offered
+module _ (es fs : List (Event PlanFile)) (size : ℕ) (chunk : List ℕ) (quiet : files_read fs ≡ []) where
+  abbrev pub read : Event PlanFile
+  read = Read Pairs size chunk
+
+  abbrev pub piece : List (Event PlanFile)
+  piece = (es ++ (read ∷ [])) ++ fs
+
+  none : All (λ f. same_file Pairs f ≡ false) (files_read fs)
+  none = subst (All (λ f. same_file Pairs f ≡ false)) (sym quiet) (All-nil (λ f. same_file Pairs f ≡ false))
+
+  pub came-piece : came (same_file Pairs) piece ≡ came (same_file Pairs) es ++ chunk
+  came-piece =
+      flat_map-append (came_by (same_file Pairs)) (es ++ (read ∷ [])) fs
+      ∙ (λ i. (flat_map-append (came_by (same_file Pairs)) es (read ∷ []) i) ++ not_came (same_file Pairs) fs none i)
+      ∙ append-nil (came (same_file Pairs) es ++ (chunk ++ [])) ∙ ap (λ l. came (same_file Pairs) es ++ l) (append-nil chunk)
+
+  pub asked-piece : asked (same_file Pairs) piece ≡ asked (same_file Pairs) es + size
+  asked-piece =
+      let a = sum_by-append (asked_by (same_file Pairs)) (es ++ (read ∷ [])) fs in
+      let b = sum_by-append (asked_by (same_file Pairs)) es (read ∷ []) in
+      let c = sum_by-cons (asked_by (same_file Pairs)) read [] in
+      let d = not_asked (same_file Pairs) fs none in
+      omega (arith, a, b, c, d)
+
+  pub printed-piece : printed piece ≡ printed es ++ printed fs
+  printed-piece =
+      flat_map-append printed_by (es ++ (read ∷ [])) fs
+      ∙ ap (λ l. l ++ printed fs) (flat_map-append printed_by es (read ∷ []) ∙ append-nil (printed es))
+
+  pub stored-piece : stored piece ≡ stored es ++ stored fs
+  stored-piece =
+      flat_map-append stored_by (es ++ (read ∷ [])) fs
+      ∙ ap (λ l. l ++ stored fs) (flat_map-append stored_by es (read ∷ []) ∙ append-nil (stored es))
+
+  pub files-piece : files_read piece ≡ files_read es ++ (Pairs ∷ [])
+  files-piece =
+      flat_map-append file_read_by (es ++ (read ∷ [])) fs
+      ∙ (λ i. flat_map-append file_read_by es (read ∷ []) i ++ quiet i) ∙ append-nil (files_read es ++ (Pairs ∷ []))
+
+nothing_read : {X : Type 0} (xs ys : List X) → xs ++ ys ≡ [] → (xs ≡ []) × (ys ≡ [])
+nothing_read [] ys e = (refl, e)
+nothing_read (x ∷ xs) ys e = absurd (cons_nil x (xs ++ ys) e)
   where
-    some_none : {X : Type 0} (x : X) → Some x ≡ None → ⊥
-    some_none x e = cc
-never x (Some y) e n = absurd (none_some y n)
-  where
-    none_some : {X : Type 0} (y : X) → Some y ≡ None → ⊥
-    none_some y e = cc
+    cons_nil : {X : Type 0} (x : X) (xs : List X) → x ∷ xs ≡ [] → ⊥
+    cons_nil x xs e = cc
 
-pub points_many : length empty_points ≡ point_limit
-unfolding empty_points
-points_many = length-replicate point_limit nowhere
+never_reads : (c : Call PlanFile) (f : PlanFile) → unread c ≡ [] → c ≡ Reading f → ⊥
+never_reads c f none is = let e : f ∷ [] ≡ [] = ap unread (sym is) ∙ none in cc
 
-pub faces_many : length empty_faces ≡ face_limit
-unfolding empty_faces
-faces_many = length-replicate face_limit no_face
+one_more : (files : List PlanFile) → ReadsPairs files → ReadsPairs (files ++ (Pairs ∷ []))
+one_more files r =
+    record { pieces = r.pieces + 1; each = ap (λ l. l ++ (Pairs ∷ [])) r.each ∙ replicate-append-replicate r.pieces 1 Pairs }
 
-module _ (gives : PlanFile → List ℕ → Type 0) where
-  module _ (d : Draft) (ps : List Point) (fs : List Face) (p : Printed) (step bytes : List ℕ) (given : gives Step step) (is : bytes ≡ record_in step) where
-    pub step_refused : (n : Notice) → Some n ≡ first_fit (lay_checks d.points ps bytes) → p ≡ lines_then [] (Some n) [] → FromStep gives d ps fs p
-    step_refused n e f =
-        let fault : Some n ≡ step_fault d ps step = e ∙ ap (λ b. first_fit (lay_checks d.points ps b)) is in
+-- ---- so far each piece was full
+pub record Told (w v : Walk) (es : List (Event PlanFile)) : Type 0 where
+  pub lines : refusal_lines v ≡ refusal_lines w ++ printed es
+  pub pairs : refused_pairs v ≡ refused_pairs w ++ stored es
+  pub files : ReadsPairs (files_read es)
+  pub full : asked (same_file Pairs) es ≡ length (came (same_file Pairs) es)
+  pub number : ℕ
+  pub fours : length (came (same_file Pairs) es) ≡ 4 * number
+
+module _ {S E : Type 0} (does : S → Event PlanFile → S → Type 0) (fails : S → Call PlanFile → E → S → Type 0)
+    (set : Shape → Bool) (ps : List Point) (fs : List Face) where
+  -- from the state s, which had made some walk, to t
+  abbrev pub Going : State → State → S → S → Type 0
+  Going s t h h' =
+      (d : Draft) (sheet : Sheet) (w : Walk) → Made set d ps fs sheet w s
+      → Finished does fails {X = Unit {0}}
+      (λ es x. Told w (walked set sheet w (pairs_came es)) es × Made set d ps fs sheet (walked set sheet w (pairs_came es)) t) h tt h'
+
+  pub begun : (s : State) (h : S) → Going s s h h
+  begun s h d sheet w m =
+      record {
+        events = [];
+        went = nothing;
+        good = (
+          record {
+            lines = sym (append-nil (refusal_lines w));
+            pairs = sym (append-nil (refused_pairs w));
+            files = record { pieces = 0; each = refl };
+            full = refl;
+            number = 0;
+            fours = refl;
+          },
+          m);
+      }
+
+  -- a piece can't be read
+  pub unread_piece : (X : Type 0) (s t u : State) (h i j : S) (e : E) → Going s t h i → fails i (Reading Pairs) e j → OffersFile {X = X} does fails set ps fs s u h (Err e) j
+  unread_piece X s t u h i j e going f d sheet w m =
+      let a = going d sheet w m in
+      let told = a.good.0 in
+      let v = walked set sheet w (pairs_came a.events) in
+      record {
+        events = a.events;
+        call = Reading Pairs;
+        before = i;
+        went = a.went;
+        failed = f;
+        part = record {
+          lines = subst (λ l. IsFront l (refusal_lines v)) told.lines (whole (refusal_lines v));
+          pairs = subst (λ l. IsFront l (refused_pairs v)) told.pairs (whole (refused_pairs v));
+          files = one_more (files_read a.events) told.files;
+          first = λ all e. first_pairs told.number (asked (same_file Pairs) a.events) (came (same_file Pairs) a.events) all e told.fours;
+          told = λ file is. told.lines;
+        };
+      }
+
+  -- ---- a piece is read, and its pairs are offered
+  module _ (s t u : State) (h i j : S) (m size : ℕ) (chunk : List ℕ) (room : size ≡ 4 * m) (few : length chunk ≤ size)
+      (going : Going s t h i) (did : does i (Read Pairs size chunk) j) where
+    module _ (sheet : Sheet) (w v : Walk) (es gs : List (Event PlanFile)) (told : Told w v es) (quiet : files_read gs ≡ []) where
+      all_came : came (same_file Pairs) (piece es gs size chunk quiet) ≡ came (same_file Pairs) es ++ chunk
+      all_came = came-piece es gs size chunk quiet
+
+      all_asked : asked (same_file Pairs) (piece es gs size chunk quiet) ≡ length (came (same_file Pairs) es) + size
+      all_asked = asked-piece es gs size chunk quiet ∙ ap (λ n. n + size) told.full
+
+      pub came_whole : length chunk < size → CameWhole (piece es gs size chunk quiet)
+      came_whole short all e =
+          short_is_all (asked (same_file Pairs) (piece es gs size chunk quiet)) (came (same_file Pairs) (piece es gs size chunk quiet)) all e
+          (omega (arith, short, ap length all_came, all_asked, length-append (came (same_file Pairs) es) chunk))
+
+      pub fours_came : length chunk ≡ size → length (came (same_file Pairs) (piece es gs size chunk quiet)) ≡ 4 * (told.number + m)
+      fours_came full = omega (arith, full, room, ap length all_came, length-append (came (same_file Pairs) es) chunk, told.fours)
+
+      pub full_came : length chunk ≡ size → asked (same_file Pairs) (piece es gs size chunk quiet) ≡ length (came (same_file Pairs) (piece es gs size chunk quiet))
+      full_came full = omega (arith, full, ap length all_came, all_asked, length-append (came (same_file Pairs) es) chunk)
+
+      pub first_came : (all : List ℕ) → came (same_file Pairs) (piece es gs size chunk quiet) ≡ take (asked (same_file Pairs) (piece es gs size chunk quiet)) all
+          → IsFront (pairs_came (piece es gs size chunk quiet)) (pairs_in all)
+      first_came all e = by (eq-or-lt_of_le few)
+        where
+          by : (length chunk ≡ size) ⊎ (length chunk < size) → IsFront (pairs_came (piece es gs size chunk quiet)) (pairs_in all)
+          by (inr short) = subst (λ l. IsFront (pairs_came (piece es gs size chunk quiet)) (pairs_in l)) (sym (came_whole short all e)) (whole (pairs_came (piece es gs size chunk quiet)))
+          by (inl full) =
+              first_pairs (told.number + m) (asked (same_file Pairs) (piece es gs size chunk quiet)) (came (same_file Pairs) (piece es gs size chunk quiet)) all e (fours_came full)
+
+      -- the walk goes on over its pairs
+      pub walk_came : v ≡ walked set sheet w (pairs_came es) → walked set sheet v (pairs_in chunk) ≡ walked set sheet w (pairs_came (piece es gs size chunk quiet))
+      walk_came is =
+          ap (λ x. walked set sheet x (pairs_in chunk)) is ∙ sym (fold-append (offered set sheet) w (pairs_came es) (pairs_in chunk))
+          ∙ ap (walked set sheet w) (sym (pairs_in-append told.number (came (same_file Pairs) es) chunk told.fours) ∙ ap pairs_in (sym all_came))
+
+      lines_then : (x : Walk) → refusal_lines x ≡ refusal_lines v ++ printed gs → refusal_lines x ≡ refusal_lines w ++ printed (piece es gs size chunk quiet)
+      lines_then x e =
+          e ∙ ap (λ l. l ++ printed gs) told.lines ∙ append_assoc (refusal_lines w) (printed es) (printed gs)
+          ∙ ap (λ l. refusal_lines w ++ l) (sym (printed-piece es gs size chunk quiet))
+
+      pairs_then : (x : Walk) → refused_pairs x ≡ refused_pairs v ++ stored gs → refused_pairs x ≡ refused_pairs w ++ stored (piece es gs size chunk quiet)
+      pairs_then x e =
+          e ∙ ap (λ l. l ++ stored gs) told.pairs ∙ append_assoc (refused_pairs w) (stored es) (stored gs)
+          ∙ ap (λ l. refused_pairs w ++ l) (sym (stored-piece es gs size chunk quiet))
+
+      files_then : ReadsPairs (files_read (piece es gs size chunk quiet))
+      files_then = subst ReadsPairs (sym (files-piece es gs size chunk quiet)) (one_more (files_read es) told.files)
+
+    -- it was full, and all goes on
+    pub full_piece : (k : S) → length chunk ≡ size → Offers {X = Unit {0}} does fails set ps fs (pairs_in chunk) t u j (Ok tt) k → Going s u h k
+    full_piece k full offers d sheet w made =
+        let a = going d sheet w made in
+        let v = walked set sheet w (pairs_came a.events) in
+        let b = offers d sheet v a.good.1 in
+        let es = a.events in
+        let gs = b.events in
+        let told = a.good.0 in
+        let quiet = b.good.0.files in
+        let x = walked set sheet v (pairs_in chunk) in
+        let end = walk_came sheet w v es gs told quiet refl in
         record {
-          step = step;
-          pairs = [];
-          step_given = given;
-          pairs_given = λ none. never n (step_fault d ps step) fault none;
-          printed = f ∙ ap (λ o. unless_fault o (printed_from (points_laid d ps step) fs (pairs_in []) (first_state d))) fault;
-          claim = λ none. never n (step_fault d ps step) fault none;
+          events = piece es gs size chunk quiet;
+          went = went_on does h j k (es ++ (Read Pairs size chunk ∷ [])) gs (next (Read Pairs size chunk) a.went did) b.went;
+          good = subst (λ y. Told w y (piece es gs size chunk quiet) × Made set d ps fs sheet y u) end (
+            record {
+              lines = lines_then sheet w v es gs told quiet x b.good.0.lines;
+              pairs = pairs_then sheet w v es gs told quiet x b.good.0.pairs;
+              files = files_then sheet w v es gs told quiet;
+              full = full_came sheet w v es gs told quiet full;
+              number = told.number + m;
+              fours = fours_came sheet w v es gs told quiet full;
+            },
+            b.good.1);
         }
 
-    pub step_accepted : (laid : List Point) → None ≡ first_fit (lay_checks d.points ps bytes) → laid ≡ onto_front (with_ends (take d.points ps) bytes) ps
-        → FromPairs gives d laid fs p → FromStep gives d ps fs p
-    step_accepted laid e l r =
-        let fault : None ≡ step_fault d ps step = e ∙ ap (λ b. first_fit (lay_checks d.points ps b)) is in
-        let same : laid ≡ points_laid d ps step = l ∙ ap (λ b. onto_front (with_ends (take d.points ps) b) ps) is in
+    -- it was short: that is the end
+    pub last_piece : (k : S) → length chunk < size → Offers {X = Unit {0}} does fails set ps fs (pairs_in chunk) t u j (Ok tt) k → OffersFile {X = Unit {0}} does fails set ps fs s u h (Ok tt) k
+    last_piece k short offers d sheet w made =
+        let a = going d sheet w made in
+        let v = walked set sheet w (pairs_came a.events) in
+        let b = offers d sheet v a.good.1 in
+        let es = a.events in
+        let gs = b.events in
+        let told = a.good.0 in
+        let quiet = b.good.0.files in
+        let x = walked set sheet v (pairs_in chunk) in
+        let end = walk_came sheet w v es gs told quiet refl in
         record {
-          step = step;
-          pairs = r.pairs;
-          step_given = given;
-          pairs_given = λ none. r.pairs_given;
-          printed =
-              r.printed ∙ ap (λ q. printed_from q fs (pairs_in r.pairs) (first_state d)) same
-              ∙ ap (λ o. unless_fault o (printed_from (points_laid d ps step) fs (pairs_in r.pairs) (first_state d))) fault;
-          claim = λ none. subst (λ q. ClaimOfPairs d q fs (pairs_in r.pairs) (first_state d)) same r.claim;
+          events = piece es gs size chunk quiet;
+          went = went_on does h j k (es ++ (Read Pairs size chunk ∷ [])) gs (next (Read Pairs size chunk) a.went did) b.went;
+          good = subst (λ y. TellsFile w y (piece es gs size chunk quiet) × Made set d ps fs sheet y u) end (
+            record {
+              lines = lines_then sheet w v es gs told quiet x b.good.0.lines;
+              pairs = pairs_then sheet w v es gs told quiet x b.good.0.pairs;
+              files = files_then sheet w v es gs told quiet;
+              whole = came_whole sheet w v es gs told quiet short;
+            },
+            b.good.1);
         }
 
-  module _ (p : Printed) (sheet bytes : List ℕ) (given : gives Sheet sheet) (is : bytes ≡ text_in sheet) (m n : ℕ) (points : m ≡ point_limit) (faces : n ≡ face_limit) where
-    same_fault : first_fit (sheet_checks bytes m n) ≡ sheet_fault sheet
-    same_fault = λ i. first_fit (sheet_checks (is i) (points i) (faces i))
-
-    pub sheet_refused : (x : Notice) → Some x ≡ first_fit (sheet_checks bytes m n) → p ≡ lines_then [] (Some x) [] → FromPlan gives p
-    sheet_refused x e f =
-        let fault : Some x ≡ sheet_fault sheet = e ∙ same_fault in
+    -- a call fails while its pairs are offered
+    pub piece_in_part : (k : S) (e : E) (z : State) → Offers {X = Unit {0}} does fails set ps fs (pairs_in chunk) t u j (Err e) k → OffersFile {X = Unit {0}} does fails set ps fs s z h (Err e) k
+    piece_in_part k e z offers d sheet w made =
+        let a = going d sheet w made in
+        let v = walked set sheet w (pairs_came a.events) in
+        let b = offers d sheet v a.good.1 in
+        let es = a.events in
+        let gs = b.events in
+        let told = a.good.0 in
+        let silent = nothing_read (files_read gs) (unread b.call) b.part.files in
+        let quiet = silent.0 in
+        let x = walked set sheet v (pairs_in chunk) in
+        let end = walk_came sheet w v es gs told quiet refl in
+        let line = ap (λ l. l ++ printed gs) told.lines ∙ append_assoc (refusal_lines w) (printed es) (printed gs) ∙ ap (λ l. refusal_lines w ++ l) (sym (printed-piece es gs size chunk quiet)) in
+        let pair = ap (λ l. l ++ stored gs) told.pairs ∙ append_assoc (refused_pairs w) (stored es) (stored gs) ∙ ap (λ l. refused_pairs w ++ l) (sym (stored-piece es gs size chunk quiet)) in
         record {
-          sheet = sheet;
-          step = [];
-          pairs = [];
-          sheet_given = given;
-          step_given = λ none. never x (sheet_fault sheet) fault none;
-          pairs_given = λ none. never x (sheet_fault sheet) fault none;
-          printed = f ∙ ap (λ o. unless_fault o (printed_after_sheet (draft_read sheet) (points_read sheet) (faces_read sheet) [] [])) fault;
-          claim = λ none. never x (sheet_fault sheet) fault none;
+          events = piece es gs size chunk quiet;
+          call = b.call;
+          before = b.before;
+          went = went_on does h j b.before (es ++ (Read Pairs size chunk ∷ [])) gs (next (Read Pairs size chunk) a.went did) b.went;
+          failed = b.failed;
+          part = subst (λ y. TellsFileInPart w y (piece es gs size chunk quiet) b.call) end (record {
+            lines = subst (λ l. IsFront l (refusal_lines x)) line b.part.lines;
+            pairs = subst (λ l. IsFront l (refused_pairs x)) pair b.part.pairs;
+            files = subst ReadsPairs (sym (ap (λ l. files_read (piece es gs size chunk quiet) ++ l) silent.1 ∙ append-nil (files_read (piece es gs size chunk quiet)))) (files_then sheet w v es gs told quiet);
+            first = first_came sheet w v es gs told quiet;
+            told = λ f is. absurd (never_reads b.call f silent.1 is);
+          });
         }
-
-    pub sheet_accepted : (d : Draft) (ps : List Point) (fs : List Face) → None ≡ first_fit (sheet_checks bytes m n) → d ≡ draft_of bytes
-        → ps ≡ onto_front (points_in (numbered bytes)) empty_points → fs ≡ onto_front (faces_in (numbered bytes)) empty_faces
-        → FromStep gives d ps fs p → FromPlan gives p
-    sheet_accepted d ps fs e a b c r =
-        let fault : None ≡ sheet_fault sheet = e ∙ same_fault in
-        let a' : d ≡ draft_read sheet = a ∙ ap draft_of is in
-        let b' : ps ≡ points_read sheet = b ∙ ap (λ t. onto_front (points_in (numbered t)) empty_points) is in
-        let c' : fs ≡ faces_read sheet = c ∙ ap (λ t. onto_front (faces_in (numbered t)) empty_faces) is in
-        let s : FromStep gives (draft_read sheet) (points_read sheet) (faces_read sheet) p =
-        subst (λ q. FromStep gives (draft_read sheet) (points_read sheet) q p) c'
-        (subst (λ q. FromStep gives (draft_read sheet) q fs p) b' (subst (λ q. FromStep gives q ps fs p) a' r)) in
-        record {
-          sheet = sheet;
-          step = s.step;
-          pairs = s.pairs;
-          sheet_given = given;
-          step_given = λ none. s.step_given;
-          pairs_given = λ none. s.pairs_given;
-          printed = s.printed ∙ ap (λ o. unless_fault o (printed_after_sheet (draft_read sheet) (points_read sheet) (faces_read sheet) s.step s.pairs)) fault;
-          claim = λ none. s.claim;
-        }
-
-by_fault : (o : Option Notice) (p q : Printed) → (o ≡ None → p ≡ q) → unless_fault o p ≡ unless_fault o q
-by_fault None p q h = h refl
-by_fault (Some n) p q h = refl
-
--- where each file gives no bytes but these
-module _ (sheet step pairs : List ℕ) (p : Printed) (r : FromPlan (λ file all. all ≡ file_of sheet step pairs file) p) where
-  module _ (none : sheet_fault sheet ≡ None) where
-    same_step : r.step ≡ step
-    same_step = r.step_given (ap sheet_fault r.sheet_given ∙ none)
-
-    fault_there : (step_fault (draft_read sheet) (points_read sheet) step ≡ None) → step_fault (draft_read r.sheet) (points_read r.sheet) r.step ≡ None
-    fault_there n = (λ i. step_fault (draft_read (r.sheet_given i)) (points_read (r.sheet_given i)) (same_step i)) ∙ n
-
-    same_pairs : step_fault (draft_read sheet) (points_read sheet) step ≡ None → r.pairs ≡ pairs
-    same_pairs n = r.pairs_given (ap sheet_fault r.sheet_given ∙ none) (fault_there n)
-
-  pub printed_of_bytes : p ≡ printout_of sheet step pairs
-  printed_of_bytes =
-      let d = draft_read sheet in
-      let ps = points_read sheet in
-      let fs = faces_read sheet in
-      r.printed ∙ ap (λ b. printout_of b r.step r.pairs) r.sheet_given
-      ∙ by_fault (sheet_fault sheet) (printed_after_sheet d ps fs r.step r.pairs) (printed_after_sheet d ps fs step pairs)
-      (λ none.
-      ap (λ b. printed_after_sheet d ps fs b r.pairs) (same_step none)
-      ∙ by_fault (step_fault d ps step) (printed_from (points_laid d ps step) fs (pairs_in r.pairs) (first_state d)) (printed_from (points_laid d ps step) fs (pairs_in pairs) (first_state d))
-      (λ n. ap (λ b. printed_from (points_laid d ps step) fs (pairs_in b) (first_state d)) (same_pairs none n)))
-
-  pub claim_of_bytes : ClaimOfPlan sheet step pairs
-  claim_of_bytes none n =
-      let C : List ℕ → List ℕ → List ℕ → Type 0 = λ a b c. ClaimOfPairs (draft_read a) (points_laid (draft_read a) (points_read a) b) (faces_read a) (pairs_in c) (first_state (draft_read a)) in
-      let claim : C r.sheet r.step r.pairs = r.claim (ap sheet_fault r.sheet_given ∙ none) (fault_there none n) in
-      subst (λ c. C sheet step c) (same_pairs none n) (subst (λ b. C sheet b r.pairs) (same_step none) (subst (λ a. C a r.step r.pairs) r.sheet_given claim))

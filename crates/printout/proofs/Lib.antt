@@ -1,4 +1,8 @@
+pub mod FileByFile
 pub mod Files
-pub mod Lenders
-pub mod Steps
-pub mod Tables
+pub mod Offers
+pub mod Phases
+pub mod Requests
+pub mod Rows
+pub mod Telling
+pub mod Turns

@@ -1,4 +1,6 @@
 pub mod Printouts
-pub mod Pairs
-pub mod Reading
+pub mod Walks
 pub mod Plans
+pub mod Outcomes
+pub mod Progress
+pub mod Phases

@@ -1,108 +1,109 @@
--- A whole run: a plan's files are read in their order, each used before the next is read.
-use Rattle.std.specs.Prelude.{◌≡◌, ℕ, ◌+◌, List, [], take, replicate, Some, None, Option}
+-- What a plan's files make `inspect` print, store and end with, and what it may claim then.
+use Rattle.std.specs.Prelude.{◌≡◌, ℕ, List, [], ◌∷◌, ◌++◌, Some, None, Option, replicate}
 use Rattle.sheet.specs.Checks.{first_fit}
 use Rattle.sheet.specs.Lines.{numbered}
-use Rattle.sheet.specs.Sheet.{text_limit, point_limit, face_limit, sheet_checks, draft_of, points_in, faces_in, onto_front}
+use Rattle.sheet.specs.Sheet.{point_limit, face_limit, sheet_checks, draft_of, points_in, faces_in}
 use Rattle.sheet.specs.declared.notices.Notice.{Notice}
 use Rattle.sheet.specs.declared.drafts.Draft.{Draft}
 use Rattle.sheet.specs.declared.rows.Point.{Point}
 use Rattle.sheet.specs.declared.rows.Face.{Face}
 use Rattle.step.specs.Laying.{lay_checks, with_ends}
-use Rattle.step.specs.Limit.{record_limit}
-use Rattle.inspection.specs.Sheets.{nowhere, no_face}
-use Rattle.printout.specs.Printouts.{Printed, lines_then}
-use Rattle.printout.specs.Pairs.{pairs_in, first_state, printed_from, ClaimOfPairs}
-use Rattle.printout.specs.declared.sources.PlanFile.{PlanFile}
-use Rattle.printout.specs.declared.sources.PlanFile.TheVariants.{Sheet, Step, Pairs}
+use Rattle.motion.specs.Rows.{delivered}
+use Rattle.inspection.specs.Claims.{Claim}
+use Rattle.inspection.specs.Lists.{Contents}
+use Rattle.inspection.specs.Sheets.{Sheet, sheet_of}
+use Rattle.inspection.specs.States.{State}
+use Rattle.report.specs.Reports.{View, report_text}
+use Rattle.printout.specs.Printouts.{Printout, notice_line}
+use Rattle.printout.specs.Walks.{Walk, Found, pairs_in, just_opened, walked, refusal_lines, refused_pairs}
+use Rattle.printout.specs.declared.endings.Ending.TheVariants.{Complete, Faulty}
+use Rattle.printout.specs.declared.plan_files.PlanFile.{PlanFile}
+use Rattle.printout.specs.declared.plan_files.PlanFile.TheVariants.{Sheet as SheetFile, Step as StepFile, Pairs as PairsFile}
 
--- tables of the full limits
-unfoldable pub empty_points : List Point
-empty_points = replicate point_limit nowhere
+-- the bytes of its three files
+pub record Plan : Type 0 where
+  pub sheet : List ℕ
+  pub step : List ℕ
+  pub pairs : List ℕ
 
-unfoldable pub empty_faces : List Face
-empty_faces = replicate face_limit no_face
+abbrev pub bytes_of : Plan → PlanFile → List ℕ
+bytes_of p SheetFile = p.sheet
+bytes_of p StepFile = p.step
+bytes_of p PairsFile = p.pairs
 
--- one byte past the limit tells that there are too many
-abbrev pub text_in : List ℕ → List ℕ
-text_in sheet = take (text_limit + 1) sheet
+-- ---- its sheet, and its step
+abbrev pub draft : Plan → Draft
+draft p = draft_of p.sheet
 
-abbrev pub record_in : List ℕ → List ℕ
-record_in step = take (record_limit + 1) step
+abbrev pub resting_points : Plan → List Point
+resting_points p = points_in (numbered p.sheet)
 
--- a fault ends the run with its line; where there is none it goes on
-abbrev pub unless_fault : Option Notice → Printed → Printed
-unless_fault None p = p
-unless_fault (Some n) p = lines_then [] (Some n) []
+abbrev pub moving_points : Plan → List Point
+moving_points p = with_ends (resting_points p) p.step
 
--- ---- the run after the sheet, over its tables, by the bytes of the step's and the pairs' file
-module _ (d : Draft) (ps : List Point) where
-  abbrev pub step_fault : List ℕ → Option Notice
-  step_fault step = first_fit (lay_checks d.points ps (record_in step))
+abbrev pub faces : Plan → List Face
+faces p = faces_in (numbered p.sheet)
 
-  abbrev pub points_laid : List ℕ → List Point
-  points_laid step = onto_front (with_ends (take d.points ps) (record_in step)) ps
+abbrev pub sheet : Plan → Sheet
+sheet p = sheet_of (moving_points p) (faces p)
 
-  abbrev pub printed_after_sheet : List Face → List ℕ → List ℕ → Printed
-  printed_after_sheet fs step pairs =
-      unless_fault (step_fault step)
-      (printed_from (points_laid step) fs (pairs_in pairs) (first_state d))
+abbrev pub sheet_fault : Plan → Option Notice
+sheet_fault p = first_fit (sheet_checks p.sheet point_limit face_limit)
 
--- ---- the whole run, by the bytes of the three files
-abbrev pub sheet_fault : List ℕ → Option Notice
-sheet_fault sheet = first_fit (sheet_checks (text_in sheet) point_limit face_limit)
+abbrev pub step_fault : Plan → Option Notice
+step_fault p = first_fit (lay_checks (draft p).points (resting_points p) p.step)
 
-abbrev pub draft_read : List ℕ → Draft
-draft_read sheet = draft_of (text_in sheet)
+-- the first fault that ends the run
+abbrev pub or_else : Option Notice → Option Notice → Option Notice
+or_else (Some n) later = Some n
+or_else None later = later
 
-abbrev pub points_read : List ℕ → List Point
-points_read sheet = onto_front (points_in (numbered (text_in sheet))) empty_points
+abbrev pub fault : Plan → Option Notice
+fault p = or_else (sheet_fault p) (step_fault p)
 
-abbrev pub faces_read : List ℕ → List Face
-faces_read sheet = onto_front (faces_in (numbered (text_in sheet))) empty_faces
+-- a list by its names alone
+abbrev pub names_alone : {E : Type 0} → List E → Contents E
+names_alone es = record { entries = es; rest = []; lender = 0 }
 
-abbrev pub printout_of : List ℕ → List ℕ → List ℕ → Printed
-printout_of sheet step pairs =
-    unless_fault (sheet_fault sheet)
-    (printed_after_sheet (draft_read sheet) (points_read sheet) (faces_read sheet) step pairs)
+-- ---- what is printed and stored
+-- all of its pairs, offered one after another
+abbrev pub walk : Plan → Walk
+walk p = walked delivered (sheet p) (just_opened (draft p)) (pairs_in p.pairs)
 
--- the claim of a run that no fault ends
-abbrev pub ClaimOfPlan : List ℕ → List ℕ → List ℕ → Type 0
-ClaimOfPlan sheet step pairs =
-    let d = draft_read sheet in
-    let ps = points_read sheet in
-    sheet_fault sheet ≡ None → step_fault d ps step ≡ None
-    → ClaimOfPairs d (points_laid d ps step) (faces_read sheet) (pairs_in pairs) (first_state d)
+abbrev pub report_of : Plan → Found → List ℕ
+report_of p f =
+    let view : View = record { set = delivered; core = f.core; points = moving_points p; faces = faces p } in
+    report_text view (names_alone f.vf) (names_alone f.ee)
 
--- ---- what is printed and claimed, where files give bytes; a file after a fault is not read
-module _ (gives : PlanFile → List ℕ → Type 0) where
-  pub record FromPairs (d : Draft) (ps : List Point) (fs : List Face) (p : Printed) : Type 0 where
-    pub pairs : List ℕ
-    pub pairs_given : gives Pairs pairs
-    pub printed : p ≡ printed_from ps fs (pairs_in pairs) (first_state d)
-    pub claim : ClaimOfPairs d ps fs (pairs_in pairs) (first_state d)
+-- a line for each pair that is refused, and then the report; or the line of the fault
+abbrev pub printout_by : Plan → Option Notice → Printout
+printout_by p (Some n) = record { text = notice_line n; stored = []; ending = Faulty }
+printout_by p None =
+    let w = walk p in
+    record {
+      text = refusal_lines w ++ report_of p w.found;
+      stored = refused_pairs w;
+      ending = Complete;
+    }
 
-  pub record FromStep (d : Draft) (ps : List Point) (fs : List Face) (p : Printed) : Type 0 where
-    pub step : List ℕ
-    pub pairs : List ℕ
-    pub step_given : gives Step step
-    pub pairs_given : step_fault d ps step ≡ None → gives Pairs pairs
-    pub printed : p ≡ printed_after_sheet d ps fs step pairs
-    pub claim : step_fault d ps step ≡ None
-        → ClaimOfPairs d (points_laid d ps step) fs (pairs_in pairs) (first_state d)
+abbrev pub printout : Plan → Printout
+printout p = printout_by p (fault p)
 
-  pub record FromPlan (p : Printed) : Type 0 where
-    pub sheet : List ℕ
-    pub step : List ℕ
-    pub pairs : List ℕ
-    pub sheet_given : gives Sheet sheet
-    pub step_given : sheet_fault sheet ≡ None → gives Step step
-    pub pairs_given : sheet_fault sheet ≡ None
-        → step_fault (draft_read sheet) (points_read sheet) step ≡ None → gives Pairs pairs
-    pub printed : p ≡ printout_of sheet step pairs
-    pub claim : ClaimOfPlan sheet step pairs
+-- ---- which files are needed, where the pairs come in so many pieces; after a fault no more
+abbrev pub files_after : Option Notice → List PlanFile → List PlanFile
+files_after (Some n) later = []
+files_after None later = later
 
--- the files of a plan that have these bytes
-abbrev pub file_of : List ℕ → List ℕ → List ℕ → PlanFile → List ℕ
-file_of sheet step pairs Sheet = sheet
-file_of sheet step pairs Step = step
-file_of sheet step pairs Pairs = pairs
+abbrev pub needed : Plan → ℕ → List PlanFile
+needed p n =
+    SheetFile
+    ∷ files_after (sheet_fault p) (StepFile ∷ files_after (step_fault p) (replicate n PairsFile))
+
+-- ---- what nobody can say of the pairs that are not refused: that a touch is missed
+abbrev pub state_found : Found → State
+state_found f = record { core = f.core; vf = names_alone f.vf; ee = names_alone f.ee }
+
+abbrev pub ClaimOfPlan : Plan → Type 0
+ClaimOfPlan p =
+    let w = walk p in
+    fault p ≡ None → Claim delivered (draft p) (sheet p) w.accepted (state_found w.found)

@@ -1,14 +1,15 @@
-//! What the program `inspect` prints of a plan, and how its run ends, from the bytes of its files.
+//! What the program `inspect` does with a plan: what it prints, what it stores and how it ends.
 #![tactic(auto)]
 
-mod memory;
+mod endings;
+mod notices;
+mod offering;
 mod pairs;
+mod plan_files;
 mod plans;
-mod printouts;
-mod sources;
+mod tables;
 
-pub use memory::inspect_bytes;
-pub use pairs::inspect_pairs;
+pub use endings::Ending;
+pub use plan_files::PlanFile;
 pub use plans::inspect_plan;
-pub use printouts::{Ending, Printout};
-pub use sources::{PlanFile, Source};
+pub use tables::Tables;

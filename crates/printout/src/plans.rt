@@ -1,80 +1,62 @@
-// A whole run: a plan's files are read in their order, each used before the next is read.
-ghost use Rattle.std.specs.Prelude.{◌≡◌, IfOk};
-ghost use Rattle.sheet.specs.Checks.{first_fit};
-ghost use Rattle.printout.specs.Printouts.{printed_by};
-ghost use Rattle.printout.specs.Plans.{empty_points, empty_faces, FromPairs, FromStep, FromPlan};
+// A whole run: the files of a plan are read in their order, each used before the next is read.
+ghost use Rattle.std.specs.Prelude.{◌≡◌, ◌≤◌, IfOk};
+ghost use Rattle.hosts.specs.Works.{Prints};
+ghost use Rattle.sheet.specs.Sheet.{point_limit, face_limit};
+ghost use Rattle.printout.specs.Outcomes.{Inspects};
+ghost use Rattle.printout.specs.Phases.{StepRan};
+ghost use Rattle.printout.specs.Printouts.{notice_line};
+ghost use Rattle.printout.specs.declared.endings.Ending.TheVariants.{Faulty};
 
+use crate::endings::Ending;
+use crate::notices::print_notice;
 use crate::pairs::inspect_pairs;
-use crate::printouts::{Printout, fault_printout};
-use crate::sources::{PlanFile, Source};
-use sheet::{Draft, FACE_LIMIT, Face, POINT_LIMIT, Point, TEXT_LIMIT, read_sheet};
-use std::alloc::{AllocError, Global};
-use step::{lay, record_limit};
+use crate::plan_files::PlanFile;
+use crate::tables::Tables;
+use hosts::Host;
+use sheet::{Draft, Notice, read_sheet};
+use step::lay;
 
-/// Inspects the plan that a source gives: what is printed, and how the run ends. A fault of the
-/// sheet or of the step ends it with its line.
+/// Inspects a plan over a host: reads the files that are needed, in their order, prints what is
+/// found as it is found, and stores the pairs that are refused.
 ///
-/// Of the sheet and of the step one byte is read past the longest that is accepted, of the pairs
-/// all.
-pub fn inspect_plan<S: Source>(alloc: Global, source: &S) -> anyhow::Result<Printout>
-    ensures { IfOk result (λ p. FromPlan (S.gives source.now) (printed_by p)) }
+/// A fault of the sheet or of the step ends the run with its line. Of the pairs that are not
+/// refused nobody can name a touch that is not printed.
+pub fn inspect_plan<H: Host<File = PlanFile>>(
+    tables: &mut Tables,
+    host: &mut H,
+) -> Result<Ending, H::Error>
+    ensures { Inspects H.does H.fails host.old result host.new }
 {
-    let mut points = point_table(alloc)?;
-    let mut faces = face_table(alloc)?;
-    let text = source.read(PlanFile::Sheet, TEXT_LIMIT + 1)?;
-    match read_sheet(text.as_slice(), points.as_mut_slice(), faces.as_mut_slice()) {
-        Ok(draft) => inspect_step(
-            alloc,
-            source,
-            draft,
-            points.as_mut_slice(),
-            faces.as_slice(),
-        ),
-        Err(fault) => Ok(fault_printout(Vec::new(alloc), fault.notice())?),
+    let n = host.fill(PlanFile::Sheet, &mut tables.text)?;
+    match read_sheet(&tables.text[..n], &mut tables.points, &mut tables.faces) {
+        Ok(draft) => inspect_step(draft, tables, host),
+        Err(fault) => tell_fault(host, fault.notice()),
     }
-}
-
-fn point_table(alloc: Global) -> Result<Vec<Point>, AllocError>
-    ensures { IfOk result (λ v. v.items ≡ empty_points) }
-{
-    vec![in alloc; Point::default(); POINT_LIMIT as usize]
-}
-
-fn face_table(alloc: Global) -> Result<Vec<Face>, AllocError>
-    ensures { IfOk result (λ v. v.items ≡ empty_faces) }
-{
-    vec![in alloc; Face::default(); FACE_LIMIT as usize]
 }
 
 /// The run after the sheet.
-fn inspect_step<S: Source>(
-    alloc: Global,
-    source: &S,
+fn inspect_step<H: Host<File = PlanFile>>(
     draft: Draft,
-    points: &mut [Point],
-    faces: &[Face],
-) -> anyhow::Result<Printout>
-    ensures { IfOk result (λ p.
-        FromStep (S.gives source.now) draft points.old faces.now (printed_by p)) }
+    tables: &mut Tables,
+    host: &mut H,
+) -> Result<Ending, H::Error>
+    requires points { draft.points ≤ point_limit }
+    requires faces { draft.faces ≤ face_limit }
+    ensures { StepRan H.does H.fails draft tables.old.points tables.old.faces
+        host.old result host.new }
 {
-    let record = source.read(PlanFile::Step, record_limit() + 1)?;
-    match lay(&draft, record.as_slice(), points) {
-        Ok(()) => read_pairs(alloc, source, draft, points, faces),
-        Err(fault) => Ok(fault_printout(Vec::new(alloc), fault.notice())?),
+    let n = host.fill(PlanFile::Step, &mut tables.record)?;
+    match lay(&draft, &tables.record[..n], &mut tables.points) {
+        Ok(()) => inspect_pairs(draft, tables, host),
+        Err(fault) => tell_fault(host, fault.notice()),
     }
 }
 
-/// The run after the sheet and the step.
-fn read_pairs<S: Source>(
-    alloc: Global,
-    source: &S,
-    draft: Draft,
-    points: &[Point],
-    faces: &[Face],
-) -> anyhow::Result<Printout>
-    ensures { IfOk result (λ p.
-        FromPairs (S.gives source.now) draft points.now faces.now (printed_by p)) }
+/// Prints the line of a fault that ends the run.
+fn tell_fault<H: Host>(host: &mut H, notice: Notice) -> Result<Ending, H::Error>
+    ensures line { Prints H.does H.fails (notice_line notice) host.old result host.new }
+    ensures ending { IfOk result (λ ending. ending ≡ Faulty) }
 {
-    let pairs = source.read(PlanFile::Pairs, usize::MAX)?;
-    Ok(inspect_pairs(alloc, draft, points, faces, pairs.as_slice())?)
+    print_notice(host, notice)?;
+    Ok(Ending::Faulty)
 }

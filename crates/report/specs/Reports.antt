@@ -1,6 +1,6 @@
 -- The report of an inspection: its text, and the checks of the call in their order.
-use Rattle.std.specs.Prelude.{ℕ, ◌+◌, Bool, not, List, [], ◌∷◌, ◌++◌, length, take, Option, nat_lt, flat_map}
-use Rattle.sheet.specs.Checks.{Check}
+use Rattle.std.specs.Prelude.{ℕ, ◌+◌, Bool, not, IsTrue, All, List, [], ◌∷◌, ◌++◌, length, take, Option, is_none, if◌then◌else◌, nat_lt, flat_map}
+use Rattle.sheet.specs.Checks.{Check, first_fit}
 use Rattle.sheet.specs.declared.rows.Point.{Point}
 use Rattle.sheet.specs.declared.rows.Face.{Face}
 use Rattle.motion.specs.declared.shapes.Shape.{Shape}
@@ -11,7 +11,6 @@ use Rattle.inspection.specs.declared.classes.Tally.{Tally}
 use Rattle.inspection.specs.declared.inspections.Inspection.{Inspection}
 use Rattle.inspection.specs.declared.names.VfName.{VfName}
 use Rattle.inspection.specs.declared.names.EeName.{EeName}
-use Rattle.inspection.specs.Lists.{Contents}
 use Rattle.inspection.specs.States.{Core, core_of}
 use Rattle.inspection.specs.Tallies.{tally_in}
 use Rattle.inspection.specs.Offers.{lacks_rows}
@@ -42,11 +41,15 @@ lacks_rows_in v = lacks_rows v.core.draft v.points v.faces
 unfoldable pub entry_limit : ℕ
 entry_limit = 4294967296
 
-abbrev pub numbered : {E : Type 0} → Contents E → List E
-numbered h = take entry_limit h.entries
+abbrev pub numbered : {E : Type 0} → List E → List E
+numbered es = take entry_limit es
 
 abbrev pub check : Bool → ℕ → ℕ → ℕ → Check
 check b number first second = record { fits = b; tells = notice_at number first second }
+
+-- the numbers of entries are of the sheet
+abbrev pub AllInside : {E : Type 0} → Naming E → View → List E → Type 0
+AllInside n v es = All (λ e. IsTrue (n.inside (sheet_of v) e)) es
 
 -- ---- of a list: what its entries name, and which list it is
 module _ {E : Type 0} (n : Naming E) (l : ListKind) (v : View) where
@@ -56,8 +59,8 @@ module _ {E : Type 0} (n : Naming E) (l : ListKind) (v : View) where
   checks_from i (e ∷ es) =
       check (not (n.inside (sheet_of v) e)) 19 i (place_of l) ∷ checks_from (i + 1) es
 
-  abbrev pub entry_checks : Contents E → List Check
-  entry_checks h = checks_from 0 (numbered h)
+  abbrev pub entry_checks : List E → List Check
+  entry_checks es = checks_from 0 (numbered es)
 
   module _ (line : E → Option (ℕ × ℕ) → List ℕ) where
     -- an entry, with its window at the depth now set
@@ -65,11 +68,11 @@ module _ {E : Type 0} (n : Naming E) (l : ListKind) (v : View) where
     entry_line e = line e (window_at v.set v.core.depth (n.shape (sheet_of v) e))
 
     -- its entries, and its counts
-    abbrev pub section : Contents E → Tally → List ℕ
-    section h t = flat_map entry_line (numbered h) ++ count_line l t
+    abbrev pub section : List E → Tally → List ℕ
+    section es t = flat_map entry_line (numbered es) ++ count_line l t
 
--- ---- of an inspection, with its two lists
-module _ (v : View) (vf : Contents VfName) (ee : Contents EeName) where
+-- ---- of an inspection, with the entries of its two lists
+module _ (v : View) (vf : List VfName) (ee : List EeName) where
   abbrev pub report_text : List ℕ
   report_text =
       section vf_naming Vf v vf_line vf (tally_in Vf v.core.tallies)
@@ -80,6 +83,10 @@ module _ (v : View) (vf : Contents VfName) (ee : Contents EeName) where
   len_checks =
       check (lacks_rows_in v) 16 0 0
       ∷ (entry_checks vf_naming Vf v vf ++ entry_checks ee_naming Ee v ee)
+
+  -- what is printed: nothing, where a check fits
+  abbrev pub printed_report : List ℕ
+  printed_report = if is_none (first_fit len_checks) then report_text else []
 
   -- for an output of so many bytes
   abbrev pub report_checks : ℕ → List Check

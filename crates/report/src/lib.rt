@@ -2,10 +2,13 @@
 //! in lines of text.
 #![tactic(auto)]
 
+mod checking;
 mod faults;
 mod lines;
+mod numbering;
+mod printing;
 mod reporting;
-mod sections;
 
 pub use faults::ReportFault;
+pub use printing::print_report;
 pub use reporting::{report, report_len};

@@ -1,21 +1,24 @@
-// The report.
-ghost use Rattle.std.specs.Prelude.{◌≡◌, ◌≤◌, length, is_ok, if◌then◌else◌, IfOk, OnOk};
+// The report, written into lent bytes.
+ghost use Rattle.std.specs.Prelude.{◌≡◌, ◌^◌, ◌<◌, [], length, is_ok, nat_lt, if◌then◌else◌, IfOk, OnOk};
 ghost use Rattle.sheet.specs.Checks.{first_fit, fault_notice};
 ghost use Rattle.sheet.specs.Sheet.{onto_front};
-ghost use Rattle.inspection.specs.Lists.{contents_of};
+ghost use Rattle.inspection.specs.Lists.{entries};
+ghost use Rattle.hosts.specs.Pages.{onto_page, Filled};
 ghost use Rattle.report.specs.Faults.{notice_of_report};
-ghost use Rattle.report.specs.Reports.{view_of, lacks_rows_in, report_text, len_checks, report_checks};
+ghost use Rattle.report.specs.Reports.{view_of, report_text, printed_report, len_checks, report_checks};
 
 use crate::faults::ReportFault;
-use crate::sections::put_section;
+use crate::printing::print_report;
 use filters::Filter;
-use inspection::{EeName, Inspection, List, VfName, WindowFault};
+use hosts::Page;
+use inspection::{EeName, Inspection, List, VfName};
 use sheet::{Face, Point};
 
 /// Writes what stands on the lists and what was counted into the front of the output, and answers
 /// its length.
 ///
 /// Bytes past it are as they were, and on a fault all are.
+#[tactic(auto, using(sheet::proofs::FirstFit::past, sheet::proofs::FirstFit::stop))]
 pub fn report<F: Filter>(
     inspection: &Inspection<F>,
     points: &[Point],
@@ -25,18 +28,19 @@ pub fn report<F: Filter>(
     output: &mut [u8],
 ) -> Result<usize, ReportFault>
     ensures fault { let v = view_of F.Filter.struck inspection.now points.now faces.now in
-        let checks = report_checks v (contents_of vf.now) (contents_of ee.now) in
+        let checks = report_checks v (entries vf.now) (entries ee.now) in
         fault_notice notice_of_report result ≡ first_fit (checks (length output.old)) }
     ensures len { let v = view_of F.Filter.struck inspection.now points.now faces.now in
-        IfOk result (λ n. n ≡ length (report_text v (contents_of vf.now) (contents_of ee.now))) }
+        IfOk result (λ n. n ≡ length (report_text v (entries vf.now) (entries ee.now))) }
     ensures output { let v = view_of F.Filter.struck inspection.now points.now faces.now in
-        let text = report_text v (contents_of vf.now) (contents_of ee.now) in
+        let text = report_text v (entries vf.now) (entries ee.now) in
         output.new ≡ (if is_ok result then onto_front text output.old else output.old) }
 {
-    if report_len(inspection, points, faces, vf, ee)? > output.len() {
+    let len = report_len(inspection, points, faces, vf, ee)?;
+    if is_too_short(output, len) {
         return Err(ReportFault::OutputTooShort);
     }
-    put(inspection, points, faces, vf, ee, output)
+    report_onto(inspection, points, faces, vf, ee, output)
 }
 
 /// How long the report is: an output of so many bytes is enough.
@@ -48,17 +52,23 @@ pub fn report_len<F: Filter>(
     ee: &List<'_, EeName>,
 ) -> Result<usize, ReportFault>
     ensures fault { let v = view_of F.Filter.struck inspection.now points.now faces.now in
-        let checks = len_checks v (contents_of vf.now) (contents_of ee.now) in
+        let checks = len_checks v (entries vf.now) (entries ee.now) in
         fault_notice notice_of_report result ≡ first_fit checks }
     ensures len { let v = view_of F.Filter.struck inspection.now points.now faces.now in
-        IfOk result (λ n. n ≡ length (report_text v (contents_of vf.now) (contents_of ee.now))) }
+        IfOk result (λ n. n ≡ length (report_text v (entries vf.now) (entries ee.now))) }
 {
-    put(inspection, points, faces, vf, ee, &mut [])
+    report_onto(inspection, points, faces, vf, ee, &mut [])
 }
 
-/// Puts the report into the front of the output, if it has room for all of it, and answers how
-/// long it is.
-fn put<F: Filter>(
+/// Whether the output is too short for so many bytes.
+fn is_too_short(output: &[u8], len: usize) -> bool
+    ensures { result ≡ nat_lt (length output.now) len }
+{
+    output.len() < len
+}
+
+/// Writes as much of the report as the output has room for, and answers how long all of it is.
+fn report_onto<F: Filter>(
     inspection: &Inspection<F>,
     points: &[Point],
     faces: &[Face],
@@ -67,35 +77,38 @@ fn put<F: Filter>(
     output: &mut [u8],
 ) -> Result<usize, ReportFault>
     ensures fault { let v = view_of F.Filter.struck inspection.now points.now faces.now in
-        let checks = len_checks v (contents_of vf.now) (contents_of ee.now) in
+        let checks = len_checks v (entries vf.now) (entries ee.now) in
         fault_notice notice_of_report result ≡ first_fit checks }
     ensures len { let v = view_of F.Filter.struck inspection.now points.now faces.now in
-        IfOk result (λ n. n ≡ length (report_text v (contents_of vf.now) (contents_of ee.now))) }
+        IfOk result (λ n. n ≡ length (report_text v (entries vf.now) (entries ee.now))) }
     ensures output { let v = view_of F.Filter.struck inspection.now points.now faces.now in
-        let text = report_text v (contents_of vf.now) (contents_of ee.now) in
-        OnOk result (length text ≤ length output.old → output.new ≡ onto_front text output.old) }
+        let text = report_text v (entries vf.now) (entries ee.now) in
+        output.new ≡ (if is_ok result then onto_page text output.old else output.old) }
 {
-    if lacks_rows(inspection, points, faces, vf) {
-        return Err(ReportFault::TableTooShort);
-    }
-    let counts = inspection.findings(vf, ee);
-    let first = put_section(inspection, points, faces, vf, counts.vf, output)?;
-    let end = first.min(output.len());
-    let second = put_section(inspection, points, faces, ee, counts.ee, &mut output[end..])?;
-    Ok(first + second)
+    let mut page = Page::new(output);
+    print_on(inspection, points, faces, vf, ee, &mut page)?;
+    Ok(page.len())
 }
 
-/// Whether a table is shorter than its count: that is a window's first check, whatever the entry.
-fn lacks_rows<F: Filter>(
+/// Prints the report on an empty page, which on a fault stays empty.
+fn print_on<F: Filter>(
     inspection: &Inspection<F>,
     points: &[Point],
     faces: &[Face],
     vf: &List<'_, VfName>,
-) -> bool
-    ensures { result ≡ lacks_rows_in (view_of F.Filter.struck inspection.now points.now faces.now) }
+    ee: &List<'_, EeName>,
+    page: &mut Page<'_>,
+) -> Result<(), ReportFault>
+    ensures fault { let v = view_of F.Filter.struck inspection.now points.now faces.now in
+        let checks = len_checks v (entries vf.now) (entries ee.now) in
+        fault_notice notice_of_report result ≡ first_fit checks }
+    ensures shown { let v = view_of F.Filter.struck inspection.now points.now faces.now in
+        Filled page.old page.new (printed_report v (entries vf.now) (entries ee.now)) }
+    ensures short { let v = view_of F.Filter.struck inspection.now points.now faces.now in
+        OnOk result (length (report_text v (entries vf.now) (entries ee.now)) < 2 ^ 40) }
 {
-    match inspection.window(points, faces, vf, 0) {
-        Err(WindowFault::TableTooShort) => true,
-        _ => false,
+    match print_report(inspection, points, faces, vf, ee, page) {
+        Ok(done) => done,
+        Err(never) => match never {},
     }
 }

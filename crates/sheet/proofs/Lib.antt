@@ -1,4 +1,5 @@
 pub mod FirstFit
+pub mod Fronts
 pub mod Sound
 pub mod TextLines
 pub mod Walking

@@ -13,7 +13,7 @@ use Rattle.step.specs.declared.faults.StepFault.{StepFault}
 use Rattle.step.proofs.FieldLaws.{fit_none, Bytes}
 use Rattle.step.proofs.StepLaws.{rows_back, rows_only}
 
-length_with_ends : (ps : List Point) (bs : List ℕ) → length (with_ends ps bs) ≡ length ps
+pub length_with_ends : (ps : List Point) (bs : List ℕ) → length (with_ends ps bs) ≡ length ps
 length_with_ends [] bs = refl
 length_with_ends (p ∷ ps) bs = let h = length_with_ends ps (after_row bs) in omega arith
 

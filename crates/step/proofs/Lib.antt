@@ -2,6 +2,7 @@ pub mod CountedLaws
 pub mod FieldLaws
 pub mod FirstField
 pub mod FrameLaws
+pub mod Fronts
 pub mod LayAnswers
 pub mod LongestRecord
 pub mod NextRow

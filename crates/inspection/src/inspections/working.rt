@@ -30,6 +30,8 @@ impl<F: Filter> Inspection<F> {
         ensures step { RequestStep (F.Filter.struck self.old.filter) points.now faces.now
             request result (state_of self.old vf.old ee.old) (state_of self.new vf.new ee.new) }
         ensures filter { self.new.filter ≡ self.old.filter }
+        ensures vf_lender { (contents_of vf.new).lender ≡ (contents_of vf.old).lender }
+        ensures ee_lender { (contents_of ee.new).lender ≡ (contents_of ee.old).lender }
     {
         match request {
             Request::SetDepth(depth) => Answer::DepthSet(self.set_depth(depth)),
@@ -87,6 +89,8 @@ pub fn inspect<F: Filter>(
         Claim (F.Filter.struck filter) draft (sheet_in draft points.now faces.now)
         (history depth (take w.answered requests.now) (take w.answered answers.new))
         (state_of w.inspection vf.new ee.new)) }
+    ensures vf_lender { (contents_of vf.new).lender ≡ (contents_of vf.old).lender }
+    ensures ee_lender { (contents_of ee.new).lender ≡ (contents_of ee.old).lender }
     ensures draft_back { IfErr result (λ x. x.draft ≡ draft) }
     ensures filter_back { IfErr result (λ x. x.filter ≡ filter) }
     ensures answers_back { OnErr result (answers.new ≡ answers.old) }

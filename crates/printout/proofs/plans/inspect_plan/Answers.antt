@@ -1,45 +1,39 @@
-use Rattle.std.proofs.Common.{◌≡◌, [], Some, length, ap, ◌∙◌, arith}
-use Rattle.std.proofs.lemmas.List.{take_at}
+use Rattle.std.proofs.Common.{◌≡◌, ◌+◌, length, take, Some, ap, ◌∙◌, subst, arith}
+use Rattle.std.proofs.lemmas.Result.{err_from_is_err_and}
+use Rattle.sheet.specs.Checks.{first_fit}
 use Rattle.sheet.specs.Lines.{numbered}
-use Rattle.sheet.specs.Sheet.{points_in, faces_in, onto_front}
-use Rattle.printout.specs.Printouts.{printed_by, lines_then}
-use Rattle.printout.specs.Plans.{text_in, empty_points, empty_faces}
-use Rattle.printout.proofs.Files.{if_ok, points_many, faces_many, sheet_refused, sheet_accepted}
+use Rattle.sheet.specs.Sheet.{text_limit, point_limit, face_limit, sheet_checks, points_in, faces_in, onto_front}
+use Rattle.printout.specs.Phases.{StepRan}
+use Rattle.printout.proofs.FileByFile.{sheet_unread, sheet_faulty, sheet_accepted}
 use Rattle.printout.proofs.plans.inspect_plan.Goals as goal
+
+pub returns-in_err-n : goal.returns-in_err-n
+returns-in_err-n g c =
+    let p = err_from_is_err_and c.from_residual.result c.from_residual.ensures.1 in
+    rw (p.1, p.2) (sheet_unread g.H.Host.does g.H.Host.fails c.args.host.now c.fill.new.self c.in_err-n.field-0.0 c.in_err-n.ensures.failed)
 
 pub returns-in-Ok : goal.returns-in-Ok
 returns-in-Ok g c =
-    let gives = g.S.Source.gives c.args.source.now in
-    let read = c.in_ok-text.ensures in
-    let bytes = c.as_slice.result.now in
-    let is : bytes ≡ text_in read.0 = c.as_slice.ensures.value ∙ read.1.1 in
-    let points : c.as_mut_slice.result.now ≡ empty_points = c.as_mut_slice.ensures.value ∙ c.in_ok-points.ensures in
-    let faces : c.as_mut_slice-2.result.now ≡ empty_faces = c.as_mut_slice-2.ensures.value ∙ c.in_ok-faces.ensures in
-    let point_len = c.as_mut_slice.ensures.len in
-    let face_len = c.as_mut_slice-2.ensures.len in
-    let same_points = c.read_sheet.auto.points in
-    let same_faces = c.read_sheet.auto.faces in
-    let ps = c.as_mut_slice-in-Ok.result.now in
-    let fs = c.as_slice-in-Ok.result.now in
-    let points_read : ps ≡ onto_front (points_in (numbered bytes)) empty_points =
-    c.as_mut_slice-in-Ok.ensures.value ∙ take_at c.read_sheet.new.points _ c.in_ok-points.points.len (omega arith)
-    ∙ c.in-Ok.ensures.points ∙ ap (onto_front (points_in (numbered bytes))) points in
-    let faces_read : fs ≡ onto_front (faces_in (numbered bytes)) empty_faces =
-    c.as_slice-in-Ok.ensures.value ∙ take_at c.read_sheet.new.faces _ c.in_ok-faces.faces.len (omega arith)
-    ∙ c.in-Ok.ensures.faces ∙ ap (onto_front (faces_in (numbered bytes))) faces in
-    if_ok c.inspect_step.result
-    (λ r. sheet_accepted gives (printed_by r) read.0 bytes read.1.0 is _ _ (ap length points ∙ points_many) (ap length faces ∙ faces_many)
-    c.in-Ok.draft ps fs c.in-Ok.ensures.fault c.in-Ok.ensures.draft points_read faces_read)
-    c.inspect_step.ensures
+    let text = take c.in_ok-n.n c.fill.new.buf in
+    let size = length c.args.tables.now.text in
+    let limit : size ≡ text_limit + 1 = omega arith in
+    let points : length c.args.tables.now.points ≡ point_limit = omega arith in
+    let faces : length c.args.tables.now.faces ≡ face_limit = omega arith in
+    let same : first_fit (sheet_checks text (length c.args.tables.now.points) (length c.args.tables.now.faces)) ≡ first_fit (sheet_checks text point_limit face_limit) =
+    (λ i. first_fit (sheet_checks text (points i) (faces i))) in
+    sheet_accepted g.H.Host.does g.H.Host.fails c.args.host.now c.fill.new.self c.inspect_step.new.host size text c.in_ok-n.ensures.read limit
+    c.in-Ok.draft c.args.tables.now.points c.args.tables.now.faces (c.in-Ok.ensures.fault ∙ same) c.in-Ok.ensures.draft c.inspect_step.result
+    (subst (λ l. StepRan g.H.Host.does g.H.Host.fails c.in-Ok.draft l (onto_front (faces_in (numbered text)) c.args.tables.now.faces) c.fill.new.self c.inspect_step.result c.inspect_step.new.host) c.in-Ok.ensures.points
+    (subst (λ l. StepRan g.H.Host.does g.H.Host.fails c.in-Ok.draft c.read_sheet.new.points l c.fill.new.self c.inspect_step.result c.inspect_step.new.host) c.in-Ok.ensures.faces c.inspect_step.ensures))
 
-pub returns : goal.returns
-returns g c =
-    let gives = g.S.Source.gives c.args.source.now in
-    let read = c.in_ok-text.ensures in
-    let bytes = c.as_slice.result.now in
-    let is : bytes ≡ text_in read.0 = c.as_slice.ensures.value ∙ read.1.1 in
-    let points : c.as_mut_slice.result.now ≡ empty_points = c.as_mut_slice.ensures.value ∙ c.in_ok-points.ensures in
-    let faces : c.as_mut_slice-2.result.now ≡ empty_faces = c.as_mut_slice-2.ensures.value ∙ c.in_ok-faces.ensures in
-    let r = c.in_ok-fault_printout-in-Err in
-    let told = r.ensures ∙ (λ i. lines_then (c.new.ensures.items i) (Some (c.notice.ensures i)) []) in
-    sheet_refused gives (printed_by r.field-0) read.0 bytes read.1.0 is _ _ (ap length points ∙ points_many) (ap length faces ∙ faces_many) _ c.in-Err.ensures.fault told
+pub returns-in-Err : goal.returns-in-Err
+returns-in-Err g c =
+    let text = take c.in_ok-n.n c.fill.new.buf in
+    let size = length c.args.tables.now.text in
+    let limit : size ≡ text_limit + 1 = omega arith in
+    let points : length c.args.tables.now.points ≡ point_limit = omega arith in
+    let faces : length c.args.tables.now.faces ≡ face_limit = omega arith in
+    let same : first_fit (sheet_checks text (length c.args.tables.now.points) (length c.args.tables.now.faces)) ≡ first_fit (sheet_checks text point_limit face_limit) =
+    (λ i. first_fit (sheet_checks text (points i) (faces i))) in
+    sheet_faulty g.H.Host.does g.H.Host.fails c.args.host.now c.fill.new.self c.tell_fault.new.host size text c.in_ok-n.ensures.read limit
+    c.notice.result (ap Some c.notice.ensures ∙ c.in-Err.ensures.fault ∙ same) c.tell_fault.result c.tell_fault.ensures.line c.tell_fault.ensures.ending

@@ -22,6 +22,8 @@ loop-i-preserved g c =
       steps = worked-on (g.F.Filter.struck a.filter) a.points.now a.faces.now a.requests.now l.answers l.i (SetDepth 0) c.answer.result (state_at_start a.draft a.depth (contents_of a.vf.now) (contents_of a.ee.now)) (state_of l.inspection l.vf l.ee) u here there i.steps
           (rw (← i.filter) e.step);
       filter = e.filter ∙ i.filter;
+      vf_lender = e.vf_lender ∙ i.vf_lender;
+      ee_lender = e.ee_lender ∙ i.ee_lender;
       rest = rest-more l.answers a.answers.now l.i c.answer.result i.rest;
     }
 

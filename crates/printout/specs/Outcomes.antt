@@ -1,0 +1,51 @@
+-- What a run over a host comes to, whatever bytes the files have beyond those that came.
+use Rattle.std.specs.Prelude.{◌≡◌, ◌↔◌, ℕ, Bool, true, false, List, [], ◌∷◌, ◌++◌, None, Result}
+use Rattle.hosts.specs.Events.{Event, Call, Reading, Fits, printed, stored, files_read, came, unread}
+use Rattle.hosts.specs.Works.{Worked, IsFront}
+use Rattle.printout.specs.Plans.{Plan, bytes_of, fault, printout, needed, sheet, draft, ClaimOfPlan}
+use Rattle.printout.specs.Walks.{pairs_in, just_opened, walked, refusal_lines}
+use Rattle.motion.specs.Rows.{delivered}
+use Rattle.printout.specs.declared.endings.Ending.{Ending}
+use Rattle.printout.specs.declared.endings.Ending.TheVariants.{Complete}
+use Rattle.printout.specs.declared.plan_files.PlanFile.{PlanFile}
+use Rattle.printout.specs.declared.plan_files.PlanFile.TheVariants.{Sheet, Step, Pairs}
+
+abbrev pub same_file : PlanFile → PlanFile → Bool
+same_file Sheet Sheet = true
+same_file Step Step = true
+same_file Pairs Pairs = true
+same_file f g = false
+
+-- of the files of a plan these bytes came
+abbrev pub ReadsPlan : Plan → List (Event PlanFile) → Type 0
+ReadsPlan p es = Fits same_file (bytes_of p) es
+
+-- ---- a run to its end, and a run that a call stops
+-- of the files that are needed, where the pairs come in so many pieces
+module _ (p : Plan) (needed_in : ℕ → List PlanFile) where
+  pub record EndsWith (es : List (Event PlanFile)) (end : Ending) : Type 0 where
+    pub text : printed es ≡ (printout p).text
+    pub stored : stored es ≡ (printout p).stored
+    pub ending : end ≡ (printout p).ending
+    -- it is complete just where sheet and step have no fault
+    pub complete : (end ≡ Complete) ↔ (fault p ≡ None)
+    -- the files that are needed are read, in their order, and no others
+    pub pieces : ℕ
+    pub files : files_read es ≡ needed_in pieces
+    pub claim : ClaimOfPlan p
+
+  pub record StopsWith (es : List (Event PlanFile)) (call : Call PlanFile) : Type 0 where
+    pub text : IsFront (printed es) (printout p).text
+    pub stored : IsFront (stored es) (printout p).stored
+    pub pieces : ℕ
+    pub files : IsFront (files_read es ++ unread call) (needed_in pieces)
+    -- where a file could not be read, all is told of the pairs that came before
+    pub told : (f : PlanFile) → call ≡ Reading f
+        → printed es ≡ refusal_lines (walked delivered (sheet p) (just_opened (draft p)) (pairs_in (came (same_file Pairs) es)))
+
+-- ---- all that a run can come to
+abbrev pub Inspects : {S E : Type 0} → (S → Event PlanFile → S → Type 0)
+    → (S → Call PlanFile → E → S → Type 0) → S → Result Ending E → S → Type 0
+Inspects does fails s r t =
+    Worked does fails (λ es ending. (p : Plan) → ReadsPlan p es → EndsWith p (needed p) es ending)
+    (λ es call. (p : Plan) → ReadsPlan p es → StopsWith p (needed p) es call) s r t

@@ -1,0 +1,114 @@
+-- Pairs of faces, offered one after another to an inspection of a sheet.
+use Rattle.std.specs.Prelude.{ℕ, Bool, ◌||◌, List, [], ◌∷◌, ◌++◌, length, nat_lt, flat_map, fold, Some, None, Option}
+use Rattle.std.specs.Int.{w16, to_le_bytes}
+use Rattle.sheet.specs.Checks.{Check, first_fit}
+use Rattle.sheet.specs.declared.drafts.Draft.{Draft}
+use Rattle.sheet.specs.declared.notices.Layer.TheVariants.{Offer}
+use Rattle.sheet.specs.declared.notices.Notice.{Notice}
+use Rattle.motion.specs.declared.shapes.Shape.{Shape}
+use Rattle.inspection.specs.Faults.{check}
+use Rattle.inspection.specs.Offerings.{Offering, Faces}
+use Rattle.inspection.specs.Offers.{pair_checks, entries_by, tally_by}
+use Rattle.inspection.specs.PairBytes.{number_of}
+use Rattle.inspection.specs.Runs.{Accepted}
+use Rattle.inspection.specs.Sheets.{Sheet}
+use Rattle.inspection.specs.States.{Core, core_at_start, with_counts}
+use Rattle.inspection.specs.Tests.{vf_naming, ee_naming}
+use Rattle.inspection.specs.declared.names.VfName.{VfName}
+use Rattle.inspection.specs.declared.names.EeName.{EeName}
+use Rattle.printout.specs.Printouts.{notice_line}
+
+-- at which depth the tests are struck
+abbrev pub depth : ℕ
+depth = 2
+
+-- how many entries a list may have
+abbrev pub places : ℕ
+places = 512
+
+-- ---- pairs in bytes: two face numbers of two bytes each, the lower byte first
+-- a rest of under four bytes is skipped
+abbrev pub pairs_in : List ℕ → List Offering
+pairs_in (a ∷ b ∷ c ∷ d ∷ rest) = Faces (number_of a b) (number_of c d) ∷ pairs_in rest
+pairs_in bytes = []
+
+abbrev pub pair_bytes : Offering → List ℕ
+pair_bytes (Faces f g) = to_le_bytes w16 f ++ to_le_bytes w16 g
+
+-- ---- a walk over pairs
+-- what there is of the inspection: its counts, and the names on its two lists
+pub record Found : Type 0 where
+  pub core : Core
+  pub vf : List VfName
+  pub ee : List EeName
+
+pub record Refusal : Type 0 where
+  pub pair : Offering
+  pub why : Notice
+
+-- the pairs that were refused and those that were accepted, each in their order
+pub record Walk : Type 0 where
+  pub refused : List Refusal
+  pub accepted : List Accepted
+  pub found : Found
+
+abbrev pub just_opened : Draft → Walk
+just_opened d =
+    record {
+      refused = [];
+      accepted = [];
+      found = record { core = core_at_start d depth; vf = []; ee = [] };
+    }
+
+-- ---- by a filter's set, over a sheet
+module _ (set : Shape → Bool) (s : Sheet) where
+  -- the names on the two lists after a pair
+  abbrev pub vf_after : Offering → Found → List VfName
+  vf_after o f = entries_by vf_naming set f.core.depth s o f.vf
+
+  abbrev pub ee_after : Offering → Found → List EeName
+  ee_after o f = entries_by ee_naming set f.core.depth s o f.ee
+
+  -- a list would have more entries than it may
+  abbrev pub is_full : Offering → Found → Bool
+  is_full o f = nat_lt places (length (vf_after o f)) || nat_lt places (length (ee_after o f))
+
+  -- why a pair is refused, if it is
+  abbrev pub refusal : Offering → Found → Option Notice
+  refusal o f =
+      first_fit (pair_checks f.core.draft s o f.core.accepted ++ (check (is_full o f) 21 Offer 0 ∷ []))
+
+  -- what an accepted pair leaves
+  abbrev pub found_after : Offering → Found → Found
+  found_after o f =
+      let vf_tally = tally_by vf_naming set f.core.depth s o f.vf in
+      let ee_tally = tally_by ee_naming set f.core.depth s o f.ee in
+      record { core = with_counts vf_tally ee_tally f.core; vf = vf_after o f; ee = ee_after o f }
+
+  -- a pair goes to the refused or to the accepted
+  abbrev pub sorted_in : Walk → Offering → Option Notice → Walk
+  sorted_in w o (Some n) =
+      record {
+        refused = w.refused ++ (record { pair = o; why = n } ∷ []);
+        accepted = w.accepted;
+        found = w.found;
+      }
+  sorted_in w o None =
+      record {
+        refused = w.refused;
+        accepted = w.accepted ++ (record { what = o; depth = w.found.core.depth } ∷ []);
+        found = found_after o w.found;
+      }
+
+  abbrev pub offered : Walk → Offering → Walk
+  offered w o = sorted_in w o (refusal o w.found)
+
+  abbrev pub walked : Walk → List Offering → Walk
+  walked w os = fold offered w os
+
+-- the lines that tell why pairs are refused, and those pairs again in bytes
+abbrev pub refusal_lines : Walk → List ℕ
+refusal_lines w = flat_map (λ r. notice_line r.why) w.refused
+
+abbrev pub refused_pairs : Walk → List ℕ
+refused_pairs w = flat_map (λ r. pair_bytes r.pair) w.refused
