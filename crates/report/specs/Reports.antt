@@ -19,23 +19,23 @@ use Rattle.inspection.specs.declared.kinds.ListKind.TheVariants.{Vf, Ee}
 use Rattle.report.specs.Faults.{notice_at, place_of}
 use Rattle.report.specs.Lines.{vf_line, ee_line, count_line}
 
--- the inspection that is reported, by its filter's set, and the tables that its sheet lies in
+-- the inspection that is reported, by its filter's set, and its sheet as the tables hold it
 pub record View : Type 0 where
   pub set : Shape → Bool
   pub core : Core
-  pub points : List Point
-  pub faces : List Face
+  pub sheet : Sheet
+  -- a table is shorter than its count
+  pub lacks_rows : Bool
 
 abbrev pub view_of : {F : Type 0}
     → (F → Shape → Bool) → Inspection F → List Point → List Face → View
-view_of struck i ps fs = record { set = struck i.filter; core = core_of i; points = ps; faces = fs }
-
-abbrev pub sheet_of : View → Sheet
-sheet_of v = sheet_in v.core.draft v.points v.faces
-
--- a table is shorter than its count
-abbrev pub lacks_rows_in : View → Bool
-lacks_rows_in v = lacks_rows v.core.draft v.points v.faces
+view_of struck i ps fs =
+    record {
+      set = struck i.filter;
+      core = core_of i;
+      sheet = sheet_in i.draft ps fs;
+      lacks_rows = lacks_rows i.draft ps fs;
+    }
 
 -- the entries that have a number, which is below 2^32; an inspection lists at most nine million
 unfoldable pub entry_limit : ℕ
@@ -49,7 +49,7 @@ check b number first second = record { fits = b; tells = notice_at number first 
 
 -- the numbers of entries are of the sheet
 abbrev pub AllInside : {E : Type 0} → Naming E → View → List E → Type 0
-AllInside n v es = All (λ e. IsTrue (n.inside (sheet_of v) e)) es
+AllInside n v es = All (λ e. IsTrue (n.inside v.sheet e)) es
 
 -- ---- of a list: what its entries name, and which list it is
 module _ {E : Type 0} (n : Naming E) (l : ListKind) (v : View) where
@@ -57,7 +57,7 @@ module _ {E : Type 0} (n : Naming E) (l : ListKind) (v : View) where
   abbrev pub checks_from : ℕ → List E → List Check
   checks_from i [] = []
   checks_from i (e ∷ es) =
-      check (not (n.inside (sheet_of v) e)) 19 i (place_of l) ∷ checks_from (i + 1) es
+      check (not (n.inside v.sheet e)) 19 i (place_of l) ∷ checks_from (i + 1) es
 
   abbrev pub entry_checks : List E → List Check
   entry_checks es = checks_from 0 (numbered es)
@@ -65,7 +65,7 @@ module _ {E : Type 0} (n : Naming E) (l : ListKind) (v : View) where
   module _ (line : E → Option (ℕ × ℕ) → List ℕ) where
     -- an entry, with its window at the depth now set
     abbrev pub entry_line : E → List ℕ
-    entry_line e = line e (window_at v.set v.core.depth (n.shape (sheet_of v) e))
+    entry_line e = line e (window_at v.set v.core.depth (n.shape v.sheet e))
 
     -- its entries, and its counts
     abbrev pub section : List E → Tally → List ℕ
@@ -81,7 +81,7 @@ module _ (v : View) (vf : List VfName) (ee : List EeName) where
   -- whatever the output
   abbrev pub len_checks : List Check
   len_checks =
-      check (lacks_rows_in v) 16 0 0
+      check v.lacks_rows 16 0 0
       ∷ (entry_checks vf_naming Vf v vf ++ entry_checks ee_naming Ee v ee)
 
   -- what is printed: nothing, where a check fits

@@ -4,7 +4,7 @@ ghost use Rattle.sheet.specs.Checks.{first_fit, fault_notice};
 ghost use Rattle.inspection.specs.Lists.{entries};
 ghost use Rattle.inspection.specs.Tests.{vf_naming, ee_naming};
 ghost use Rattle.report.specs.Faults.{notice_of_report};
-ghost use Rattle.report.specs.Reports.{view_of, lacks_rows_in, sheet_of, numbered, AllInside, checks_from, entry_checks, len_checks};
+ghost use Rattle.report.specs.Reports.{view_of, numbered, AllInside, checks_from, entry_checks, len_checks};
 
 use crate::faults::ReportFault;
 use crate::lines::HasLine;
@@ -26,7 +26,7 @@ pub(crate) fn check_report<F: Filter>(
         let checks = len_checks v (entries vf.now) (entries ee.now) in
         fault_notice notice_of_report result ≡ first_fit checks }
     ensures rows { let v = view_of F.Filter.struck inspection.now points.now faces.now in
-        OnOk result (IsFalse (lacks_rows_in v)) }
+        OnOk result (IsFalse v.lacks_rows) }
     ensures vf { let v = view_of F.Filter.struck inspection.now points.now faces.now in
         OnOk result (AllInside vf_naming v (numbered (entries vf.now))) }
     ensures ee { let v = view_of F.Filter.struck inspection.now points.now faces.now in
@@ -46,7 +46,8 @@ fn lacks_rows<F: Filter>(
     faces: &[Face],
     vf: &List<'_, VfName>,
 ) -> bool
-    ensures { result ≡ lacks_rows_in (view_of F.Filter.struck inspection.now points.now faces.now) }
+    ensures { let v = view_of F.Filter.struck inspection.now points.now faces.now in
+        result ≡ v.lacks_rows }
 {
     match inspection.checked_entry(points, faces, vf, 0) {
         Err(WindowFault::TableTooShort) => true,
@@ -62,7 +63,7 @@ fn check_entries<F: Filter, E: HasLine>(
     list: &List<'_, E>,
 ) -> Result<(), ReportFault>
     requires { let v = view_of F.Filter.struck inspection.now points.now faces.now in
-        IsFalse (lacks_rows_in v) }
+        IsFalse v.lacks_rows }
     ensures fault { let v = view_of F.Filter.struck inspection.now points.now faces.now in
         let checks = entry_checks E.TestName.naming E.HasLine.kind v (entries list.now) in
         fault_notice notice_of_report result ≡ first_fit checks }
@@ -85,13 +86,13 @@ fn check_entry<F: Filter, E: HasLine>(
     _e: E,
 ) -> Result<(), ReportFault>
     requires rows { let v = view_of F.Filter.struck inspection.now points.now faces.now in
-        IsFalse (lacks_rows_in v) }
+        IsFalse v.lacks_rows }
     requires entry { slice_get (entries list.now) i ≡ Some _e }
     ensures fault { let v = view_of F.Filter.struck inspection.now points.now faces.now in
         let checks = checks_from E.TestName.naming E.HasLine.kind v i (_e ∷ []) in
         fault_notice notice_of_report result ≡ first_fit checks }
     ensures inside { let v = view_of F.Filter.struck inspection.now points.now faces.now in
-        OnOk result (IsTrue (E.TestName.naming.inside (sheet_of v) _e)) }
+        OnOk result (IsTrue (E.TestName.naming.inside v.sheet _e)) }
 {
     match inspection.checked_entry(points, faces, list, i) {
         Ok(_) => Ok(()),

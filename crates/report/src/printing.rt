@@ -1,11 +1,13 @@
 // The report, printed line by line.
 ghost use Rattle.std.specs.Prelude.{◌≡◌, ◌^◌, ◌*◌, ◌<◌, ◌≤◌, IsTrue, IsFalse, length, Some, None, slice_get, flat_map, IfOk, OnOk, OnErr};
 ghost use Rattle.sheet.specs.Checks.{first_fit, fault_notice};
+ghost use Rattle.inspection.specs.Claims.{Findings};
 ghost use Rattle.inspection.specs.Lists.{entries};
+ghost use Rattle.inspection.specs.States.{state_of};
 ghost use Rattle.inspection.specs.Tests.{vf_naming, ee_naming};
 ghost use Rattle.hosts.specs.Works.{Prints};
 ghost use Rattle.report.specs.Faults.{notice_of_report};
-ghost use Rattle.report.specs.Reports.{view_of, lacks_rows_in, sheet_of, numbered, AllInside, entry_line, section, entry_checks, len_checks, report_text, printed_report};
+ghost use Rattle.report.specs.Reports.{view_of, numbered, AllInside, entry_line, section, entry_checks, len_checks, report_text, printed_report};
 
 use crate::checking::check_report;
 use crate::faults::ReportFault;
@@ -18,6 +20,8 @@ use sheet::{Face, Point};
 
 /// Prints what stands on the lists and what was counted, line by line; on a fault of the report
 /// it prints nothing. Each entry's window is looked for once.
+///
+/// With the report comes the claim: of what is on no list nobody can name a touch (`claim`).
 #[tactic(auto, using(hosts::proofs::Printing::nothing_printed))]
 pub fn print_report<F: Filter, H: Host>(
     inspection: &Inspection<F>,
@@ -36,6 +40,8 @@ pub fn print_report<F: Filter, H: Host>(
     ensures printed { let v = view_of F.Filter.struck inspection.now points.now faces.now in
         let text = printed_report v (entries vf.now) (entries ee.now) in
         Prints H.does H.fails text host.old result host.new }
+    ensures claim { let v = view_of F.Filter.struck inspection.now points.now faces.now in
+        IfOk result (λ r. OnOk r (Findings v.set (state_of inspection.now vf.now ee.now))) }
     ensures short { let v = view_of F.Filter.struck inspection.now points.now faces.now in
         OnOk result (length (printed_report v (entries vf.now) (entries ee.now)) < 2 ^ 40) }
 {
@@ -57,7 +63,7 @@ fn print_lists<F: Filter, H: Host>(
     host: &mut H,
 ) -> Result<(), H::Error>
     requires rows { let v = view_of F.Filter.struck inspection.now points.now faces.now in
-        IsFalse (lacks_rows_in v) }
+        IsFalse v.lacks_rows }
     requires vf { let v = view_of F.Filter.struck inspection.now points.now faces.now in
         AllInside vf_naming v (numbered (entries vf.now)) }
     requires ee { let v = view_of F.Filter.struck inspection.now points.now faces.now in
@@ -65,6 +71,8 @@ fn print_lists<F: Filter, H: Host>(
     ensures printed { let v = view_of F.Filter.struck inspection.now points.now faces.now in
         let text = report_text v (entries vf.now) (entries ee.now) in
         Prints H.does H.fails text host.old result host.new }
+    ensures claim { let v = view_of F.Filter.struck inspection.now points.now faces.now in
+        OnOk result (Findings v.set (state_of inspection.now vf.now ee.now)) }
     ensures short { let v = view_of F.Filter.struck inspection.now points.now faces.now in
         OnOk result (length (report_text v (entries vf.now) (entries ee.now)) < 2 ^ 40) }
 {
@@ -84,7 +92,7 @@ fn print_section<F: Filter, E: HasLine, H: Host>(
     host: &mut H,
 ) -> Result<(), H::Error>
     requires rows { let v = view_of F.Filter.struck inspection.now points.now faces.now in
-        IsFalse (lacks_rows_in v) }
+        IsFalse v.lacks_rows }
     requires inside { let v = view_of F.Filter.struck inspection.now points.now faces.now in
         AllInside E.TestName.naming v (numbered (entries list.now)) }
     ensures printed { let v = view_of F.Filter.struck inspection.now points.now faces.now in
@@ -108,7 +116,7 @@ fn print_entries<F: Filter, E: HasLine, H: Host>(
     host: &mut H,
 ) -> Result<(), H::Error>
     requires rows { let v = view_of F.Filter.struck inspection.now points.now faces.now in
-        IsFalse (lacks_rows_in v) }
+        IsFalse v.lacks_rows }
     requires inside { let v = view_of F.Filter.struck inspection.now points.now faces.now in
         AllInside E.TestName.naming v (numbered (entries list.now)) }
     ensures printed { let v = view_of F.Filter.struck inspection.now points.now faces.now in
@@ -136,10 +144,10 @@ fn print_entry<F: Filter, E: HasLine, H: Host>(
     host: &mut H,
 ) -> Result<(), H::Error>
     requires rows { let v = view_of F.Filter.struck inspection.now points.now faces.now in
-        IsFalse (lacks_rows_in v) }
+        IsFalse v.lacks_rows }
     requires entry { slice_get (entries list.now) i ≡ Some e }
     requires inside { let v = view_of F.Filter.struck inspection.now points.now faces.now in
-        IsTrue (E.TestName.naming.inside (sheet_of v) e) }
+        IsTrue (E.TestName.naming.inside v.sheet e) }
     ensures printed { let v = view_of F.Filter.struck inspection.now points.now faces.now in
         let text = entry_line E.TestName.naming E.HasLine.kind v E.HasLine.line e in
         Prints H.does H.fails text host.old result host.new }
