@@ -74,8 +74,18 @@ abbrev pub fault_opened : ℕ → Option Notice
 fault_opened depth = first_fit (depth_checks depth)
 
 -- a fault by its number, its layer and its two places
+abbrev pub notice : ℕ → Layer → ℕ → ℕ → Notice
+notice n l i k = record { number = n; layer = l; first = i; second = k }
+
 abbrev pub fault : ℕ → Layer → ℕ → ℕ → Option Notice
-fault n l i k = Some (record { number = n; layer = l; first = i; second = k })
+fault n l i k = Some (notice n l i k)
+
+-- of three records, three texts and a depth
+abbrev pub worked_faults : List (Option Notice)
+worked_faults =
+    fault_laid (8 ∷ []) ∷ fault_laid (1 ∷ 0 ∷ 0 ∷ []) ∷ fault_laid (1 ∷ [])
+    ∷ fault_read (codes "v 1 2") ∷ fault_read (codes "v 0 0 0\nv 0 0 0\nf 1 1 2")
+    ∷ fault_read (codes "v 4097 0 0") ∷ fault_opened 7 ∷ []
 
 pub record Worked : Type 0 where
   -- the cases of moving features

@@ -1,5 +1,6 @@
--- The value that signed code computes is the whole number it stands for, as long as that number is small enough.
--- `Exact w B z raw`: the code's term `raw` is z, and z is no further from zero than B. One rule for each operation.
+-- The value that signed code computes is the whole number it stands for, as long as that number is
+-- small enough. `Exact w B z raw`: the code's term `raw` is z, and z is no further from zero than
+-- B. One rule for each operation.
 use Rattle.std.proofs.Common.{◌≡◌, ℕ, ◌+◌, ◌*◌, ◌^◌, ◌<◌, T, ltb, ℤ, pos, ◌+ℤ◌, ◌-ℤ◌, ◌*ℤ◌, sym, refl, ◌∙◌, subst, mul-le-mul, arith, ltb→lt, to_z-of_z, SFits, to_z, of_z}
 use mir.Syntax.{Width}
 use mir.Val.{hbits}

@@ -5,7 +5,7 @@ use Rattle.motion.specs.declared.shapes.Shape.{Shape}
 use Rattle.motion.specs.declared.shapes.Controls.{Controls}
 use Rattle.motion.specs.Vectors.{dot}
 use Rattle.motion.specs.Laws.{Valid}
-use Rattle.motion.specs.Plane.{d0, d1, n0, n1, velocity_normal, controls}
+use Rattle.motion.specs.Plane.{n0, n1, velocity_normal, controls}
 use Rattle.motion.proofs.Determinants.{Triple, det, G0, G1, G2, G3, seen, at_start, at_end}
 use Rattle.motion.proofs.Letters.{g0-is, g1-is, g2-is, g3-is}
 use Rattle.filters.specs.Reaching.{Near, Reach, Small}
@@ -14,12 +14,6 @@ use Rattle.filters.proofs.Reaches.{minus-reach, cross-reach, dot-near, p0, p1, a
 
 -- ---- the vectors
 module _ (t : Shape) (v : Valid t) where
-  pub d0-reach : Reach (2 ^ 19) (d0 t)
-  d0-reach = minus-reach (p0 t v) (a0 t v)
-
-  pub d1-reach : Reach (2 ^ 19) (d1 t)
-  d1-reach = minus-reach (p1 t v) (a1 t v)
-
   pub n0-reach : Reach (2 ^ 39) (n0 t)
   n0-reach = cross-reach (minus-reach (b0 t v) (a0 t v)) (minus-reach (c0 t v) (a0 t v))
 

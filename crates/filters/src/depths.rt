@@ -5,9 +5,11 @@ ghost use Rattle.motion.specs.Depths.{struck_at, Struck};
 use crate::filter::Filter;
 use crate::tests::Test;
 
-/// Whether the filter strikes each of the 2^depth subintervals of the test; none where the scale and the depth pass 6 together.
+/// Whether the filter strikes each of the 2^depth subintervals of the test; none where the scale
+/// and the depth pass 6 together.
 ///
-/// A test that is struck stays apart for the whole step, and is struck at every greater depth (`laws`).
+/// A test that is struck stays apart for the whole step, and is struck at every greater depth
+/// (`laws`).
 pub fn struck_at<F: Filter>(filter: &F, test: &Test, depth: u8) -> Option<bool>
     ensures answer { let set = F.Filter.struck filter.now in
         let t = test.now.shape in
@@ -27,7 +29,8 @@ pub(crate) fn has_room(scale: u8, depth: u8) -> bool
     depth <= 6 && scale <= 6 - depth
 }
 
-/// What is struck whole is struck in every part, so the whole is asked first, and its halves only where it passed.
+/// What is struck whole is struck in every part, so the whole is asked first, and its halves only
+/// where it passed.
 #[cycle(striking)]
 #[tactic(auto, using(crate::proofs::Turns::whole_step))]
 pub(crate) fn struck<F: Filter>(filter: &F, test: &Test, depth: u8) -> bool

@@ -5,7 +5,8 @@ ghost use Rattle.motion.specs.Laws.{Lawful};
 
 use crate::tests::Test;
 
-/// A filter discards tests whose features surely stay apart. It means a set of tests and owes two laws about it, nothing else.
+/// A filter discards tests whose features surely stay apart. It means a set of tests and owes two
+/// laws about it, nothing else.
 pub trait Filter {
     // the tests that it strikes
     ghost struck: { Self → Shape → Bool };

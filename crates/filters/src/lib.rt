@@ -1,4 +1,5 @@
-//! Filters: what a filter is and owes, three that are delivered, any two in a row, striking at a depth, and the window.
+//! Filters: what a filter is and owes, three that are delivered, any two in a row, striking at a
+//! depth, and the window.
 #![tactic(auto)]
 
 mod boxes;

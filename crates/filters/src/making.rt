@@ -7,7 +7,8 @@ use crate::tests::Test;
 use motion::{Moving, Shape, V3};
 
 impl Test {
-    /// The test of these numbers; none where the scale is over 6 or a coordinate is outside ±4,096·2^scale.
+    /// The test of these numbers; none where the scale is over 6 or a coordinate is outside
+    /// ±4,096·2^scale.
     pub fn new(shape: Shape) -> Option<Test>
         ensures { MatchOption result (¬ Valid shape) (λ t. t.shape ≡ shape) }
     {

@@ -1,5 +1,7 @@
-// The filter Plane: the point never comes into the plane of the face, nor one edge into a plane with the other.
-ghost use Rattle.std.specs.Prelude.{◌≡◌, ◌*◌, ◌^◌};
+// The filter Plane: the point never comes into the plane of the face, nor one edge into a plane
+// with the other.
+ghost use Rattle.std.specs.Prelude.{◌≡◌, ◌*◌, ◌^◌, pos, ◌+ℤ◌, ◌*ℤ◌};
+ghost use Rattle.motion.specs.Vectors.{◌-ᵛ◌, dot};
 ghost use Rattle.motion.specs.Plane.{d0, d1, n0, n1, 2n̂, normal, combined, controls, all_above, all_below, one_sign, plane_set};
 ghost use Rattle.motion.proofs.PlaneLaws.{plane-lawful};
 ghost use Rattle.filters.specs.Reaching.{Reach, Small};
@@ -31,8 +33,9 @@ pub fn controls(test: &Test) -> Controls
     Factors::of(test).combined()
 }
 
-/// What the control values are made of: the point seen from the face at the start and at the end, the face's normals there, and twice
-/// the normal between. Each is as short as the bounds of a test make it.
+/// What the control values are made of: the point seen from the face at the start and at the end,
+/// the face's normals there, and twice the normal between. Each is as short as the bounds of a test
+/// make it.
 #[derive(Clone, Copy)]
 struct Factors {
     d0: V3,
@@ -57,30 +60,55 @@ impl Factors {
         let n0 = normal(t.a.start, t.b.start, t.c.start);
         let n1 = normal(t.a.end, t.b.end, t.c.end);
         let of_moves = normal(
-            minus(t.a.end, t.a.start),
-            minus(t.b.end, t.b.start),
-            minus(t.c.end, t.c.start),
+            way(t.a.start, t.a.end),
+            way(t.b.start, t.b.end),
+            way(t.c.start, t.c.end),
         );
         Factors {
-            d0: minus(t.p.start, t.a.start),
-            d1: minus(t.p.end, t.a.end),
+            d0: way(t.a.start, t.p.start),
+            d1: way(t.a.end, t.p.end),
             n0,
             n1,
             between: minus(plus(n0, n1), of_moves),
         }
     }
 
-    /// Both terms of a value between are whole, and nothing is divided.
     fn combined(self) -> Controls
         ensures { result ≡ combined self.d0 self.d1 self.n0 self.n1 self.between }
     {
         Controls {
-            g0: 3 * dot(self.d0, self.n0),
-            g1: dot(self.d0, self.between) + dot(self.d1, self.n0),
-            g2: dot(self.d1, self.between) + dot(self.d0, self.n1),
-            g3: 3 * dot(self.d1, self.n1),
+            g0: outer(self.d0, self.n0),
+            g1: inner(self.d0, self.between, self.d1, self.n0),
+            g2: inner(self.d1, self.between, self.d0, self.n1),
+            g3: outer(self.d1, self.n1),
         }
     }
+}
+
+/// A control value at the start or at the end.
+fn outer(d: V3, n: V3) -> i64
+    requires { (Reach (2 ^ 19) d) × (Reach (2 ^ 39) n) }
+    ensures { result ≡ pos 3 *ℤ dot d n }
+{
+    3 * dot(d, n)
+}
+
+/// A control value between: both terms are whole, and nothing is divided.
+fn inner(d: V3, between: V3, other: V3, n: V3) -> i64
+    requires first { (Reach (2 ^ 19) d) × (Reach (3 * 2 ^ 40) between) }
+    requires second { (Reach (2 ^ 19) other) × (Reach (2 ^ 39) n) }
+    ensures { result ≡ dot d between +ℤ dot other n }
+{
+    dot(d, between) + dot(other, n)
+}
+
+/// The way from one point to another, where both are as near as the bounds of a test make them.
+fn way(from: V3, to: V3) -> V3
+    requires { (Reach (2 ^ 18) from) × (Reach (2 ^ 18) to) }
+    ensures value { result ≡ to -ᵛ from }
+    ensures reach { Reach (2 ^ 19) result }
+{
+    minus(to, from)
 }
 
 /// Across the triangle a, b, c.

@@ -9,7 +9,8 @@ use crate::planes::PlaneFilter;
 use crate::slabs::SlabFilter;
 use crate::tests::Test;
 
-/// Two filters in a row: it strikes what one of them strikes, and asks the second only where the first passed.
+/// Two filters in a row: it strikes what one of them strikes, and asks the second only where the
+/// first passed.
 #[derive(Clone, Copy)]
 pub struct Row<A, B> {
     pub first: A,

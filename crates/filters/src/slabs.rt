@@ -1,6 +1,6 @@
 // The filter Slab: a direction along which one feature stays beyond the other.
 ghost use Rattle.std.specs.Prelude.{◌≡◌};
-ghost use Rattle.motion.specs.Slab.{parted_along, slab_set};
+ghost use Rattle.motion.specs.Slab.{parted_along, directions, slab_set};
 ghost use Rattle.motion.specs.Laws.{Within};
 ghost use Rattle.motion.proofs.SlabLaws.{slab-lawful};
 ghost use Rattle.filters.specs.Slabs.{start_sides, end_sides};
@@ -38,14 +38,15 @@ impl Filter for SlabFilter {
     ghost lawful = { λ f. slab-lawful };
 
     fn strikes(&self, test: &Test) -> bool {
-        some_parts(test)
+        all_directions().iter().any(|d| parts(*d, test))
     }
 }
 
-fn some_parts(test: &Test) -> bool
-    ensures { result ≡ slab_set test.now.shape }
+/// Just the directions of the rule, in its order.
+fn all_directions() -> &'static [V3; 13]
+    ensures { result.now ≡ directions }
 {
-    DIRECTIONS.iter().any(|d| parts(*d, test))
+    &DIRECTIONS
 }
 
 /// Along the direction one feature is beyond the other, at the start and at the end alike.

@@ -1,4 +1,5 @@
-// Sums and products of vectors, exact: each has room for its answer where its arguments are as small as it asks.
+// Sums and products of vectors, exact: each has room for its answer where its arguments are as
+// small as it asks.
 ghost use Rattle.std.specs.Prelude.{◌≡◌, ◌*◌, ◌^◌, ◌-ℤ◌, ◌*ℤ◌};
 ghost use Rattle.motion.specs.Vectors.{◌+ᵛ◌, ◌-ᵛ◌, dot, cross};
 ghost use Rattle.filters.specs.Reaching.{Near, Reach};

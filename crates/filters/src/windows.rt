@@ -7,8 +7,8 @@ use crate::depths::has_room;
 use crate::filter::Filter;
 use crate::tests::Test;
 
-/// The first and the last of the 2^depth subintervals that the filter passes, or none where it strikes each; no answer where the scale and the
-/// depth pass 6 together.
+/// The first and the last of the 2^depth subintervals that the filter passes, or none where it
+/// strikes each; no answer where the scale and the depth pass 6 together.
 pub fn window_at<F: Filter>(filter: &F, test: &Test, depth: u8) -> Option<Option<(u8, u8)>>
     ensures { let set = F.Filter.struck filter.now in
         let t = test.now.shape in
@@ -31,7 +31,8 @@ fn window<F: Filter>(filter: &F, test: &Test, depth: u8) -> Option<(u8, u8)>
     )
 }
 
-/// What is struck whole is struck in every part, so the whole is asked first, and its halves only where it passed.
+/// What is struck whole is struck in every part, so the whole is asked first, and its halves only
+/// where it passed.
 #[tactic(auto, using(crate::proofs::Passes::first_whole, crate::proofs::Passes::first_step))]
 fn first_passed<F: Filter>(filter: &F, test: &Test, depth: u8) -> Option<u8>
     requires { test.now.shape.scale + depth ≤ 6 }

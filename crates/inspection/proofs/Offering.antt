@@ -1,14 +1,15 @@
 -- What an offer answers and leaves, from what its parts do.
-use Rattle.std.proofs.Common.{◌≡◌, ℕ, ◌-◌, Bool, true, false, cond, ◌||◌, nat_lt, List, [], ◌∷◌, ◌++◌, length, Some, None, Ok, Err, sym, refl, ap, ◌∙◌, arith, length-append}
-use Rattle.sheet.specs.Checks.{first_fit}
+use Rattle.std.proofs.Common.{◌≡◌, ℕ, ◌-◌, Bool, true, false, cond, ◌||◌, nat_lt, List, [], ◌∷◌, ◌++◌, length, Some, None, Ok, Err, Result, is_ok, sym, refl, ap, ◌∙◌, arith, length-append}
+use Rattle.sheet.specs.Checks.{first_fit, fault_notice}
 use Rattle.sheet.proofs.FirstFit.{past}
 use Rattle.sheet.specs.declared.rows.Point.{Point}
 use Rattle.sheet.specs.declared.rows.Face.{Face}
 use Rattle.motion.specs.declared.shapes.Shape.{Shape}
 use Rattle.inspection.specs.declared.classes.Tally.{Tally}
-use Rattle.inspection.specs.declared.names.VfName.{VfName}
-use Rattle.inspection.specs.declared.names.EeName.{EeName}
+use Rattle.inspection.specs.declared.faults.OfferFault.{OfferFault}
 use Rattle.inspection.specs.declared.faults.OfferFault.TheVariants.{ListFull}
+use Rattle.inspection.specs.declared.inspections.offering.PairOutcome.{PairOutcome}
+use Rattle.inspection.specs.PairOutcomes.{lacks_room_for, with_outcome}
 use Rattle.inspection.specs.Faults.{notice_of_offer}
 use Rattle.inspection.specs.Tallies.{no_tests, total}
 use Rattle.inspection.specs.Offerings.{Offering}
@@ -17,7 +18,7 @@ use Rattle.inspection.specs.Tests.{Naming, vf_naming, ee_naming}
 use Rattle.inspection.specs.Lists.{Contents, with_entries}
 use Rattle.inspection.specs.Classes.{rules_at, entries_after, tally_after}
 use Rattle.inspection.specs.States.{State, with_counts}
-use Rattle.inspection.specs.Offers.{checks_but_room, room_check, entries_by, lacks_room, offer_checks, Outcome, OfferStep}
+use Rattle.inspection.specs.Offers.{checks_but_room, room_check, entries_by, lacks_room, offer_checks, state_after, Outcome, OfferStep}
 
 -- ---- the tests of one kind
 module _ {E : Type 0} (n : Naming E) (set : Shape → Bool) (d : ℕ) (s : Sheet) (o : Offering) where
@@ -41,30 +42,28 @@ module _ {E : Type 0} (n : Naming E) (set : Shape → Bool) (d : ℕ) (s : Sheet
         λ i. nat_lt (length h.rest) (k i)
 
 -- ---- the whole
-module _ (set : Shape → Bool) (ps : List Point) (fs : List Face) (o : Offering) (s : State) (vf : List VfName) (ee : List EeName) (vt et : Tally)
-    (x : Outcome vf_naming set s.core.depth (sheet_in s.core.draft ps fs) o s.vf.entries vf vt) (y : Outcome ee_naming set s.core.depth (sheet_in s.core.draft ps fs) o s.ee.entries ee et)
-    (b : Bool) (full : b ≡ (nat_lt (length s.vf.rest) (length vf) || nat_lt (length s.ee.rest) (length ee))) (early : None ≡ first_fit (checks_but_room s.core.draft ps fs o s.core.accepted)) where
-  abbrev d : ℕ
-  d = s.core.depth
+told : (b : Bool) → fault_notice {X = Unit {0}} notice_of_offer (cond b (Err ListFull) (Ok tt)) ≡ cond b (Some (notice_of_offer ListFull)) None
+told true = refl
+told false = refl
 
+module _ (set : Shape → Bool) (ps : List Point) (fs : List Face) (o : Offering) (s : State) (new : PairOutcome)
+    (vf : Outcome vf_naming set s.core.depth (sheet_in s.core.draft ps fs) o s.vf.entries new.vf.items new.vf_tally)
+    (ee : Outcome ee_naming set s.core.depth (sheet_in s.core.draft ps fs) o s.ee.entries new.ee.items new.ee_tally)
+    (early : None ≡ first_fit (checks_but_room s.core.draft ps fs o s.core.accepted)) where
   abbrev sheet : Sheet
   sheet = sheet_in s.core.draft ps fs
 
-  last : cond b (Some (notice_of_offer ListFull)) None ≡ first_fit (offer_checks set ps fs o s)
+  last : cond (lacks_room_for new s) (Some (notice_of_offer ListFull)) None ≡ first_fit (offer_checks set ps fs o s)
   last =
-      let room : b ≡ (lacks_room vf_naming set d sheet o s.vf || lacks_room ee_naming set d sheet o s.ee) = full ∙ sym (λ i. room-is vf_naming set d sheet o s.vf vf vt x i || room-is ee_naming set d sheet o s.ee ee et y i) in
-      ap (λ (c : Bool). cond c (Some (notice_of_offer ListFull)) None) room ∙ past (checks_but_room s.core.draft ps fs o s.core.accepted) (room_check set sheet o s ∷ []) early
+      (λ i. cond (sym (room-is vf_naming set s.core.depth sheet o s.vf new.vf.items new.vf_tally vf) i || sym (room-is ee_naming set s.core.depth sheet o s.ee new.ee.items new.ee_tally ee) i) (Some (notice_of_offer ListFull)) None)
+      ∙ past (checks_but_room s.core.draft ps fs o s.core.accepted) (room_check set sheet o s ∷ []) early
 
-  pub no-room : b ≡ true → OfferStep set ps fs o s (Err ListFull) s
-  no-room e = record { fault = ap (λ (c : Bool). cond c (Some (notice_of_offer ListFull)) None) (sym e) ∙ last; state = refl }
+  after : with_outcome new s ≡ state_after set sheet o s
+  after = λ i. record {
+    core = with_counts (vf.tally i) (ee.tally i) s.core;
+    vf = with_entries (vf.entries i) s.vf;
+    ee = with_entries (ee.entries i) s.ee;
+  }
 
-  pub accepted : b ≡ false → (t : State) → t.core ≡ with_counts vt et s.core → t.vf ≡ with_entries (s.vf.entries ++ vf) s.vf → t.ee ≡ with_entries (s.ee.entries ++ ee) s.ee → OfferStep set ps fs o s (Ok tt) t
-  accepted e t p q r =
-      record {
-        fault = ap (λ (c : Bool). cond c (Some (notice_of_offer ListFull)) None) (sym e) ∙ last;
-        state = λ i. record {
-          core = (p ∙ (λ j. with_counts (x.tally j) (y.tally j) s.core)) i;
-          vf = (q ∙ ap (λ es. with_entries es s.vf) x.entries) i;
-          ee = (r ∙ ap (λ es. with_entries es s.ee) y.entries) i;
-        };
-      }
+  pub stepped : (r : Result (Unit {0}) OfferFault) (t : State) → r ≡ cond (lacks_room_for new s) (Err ListFull) (Ok tt) → t ≡ cond (is_ok r) (with_outcome new s) s → OfferStep set ps fs o s r t
+  stepped r t room state = record { fault = ap (fault_notice notice_of_offer) room ∙ told (lacks_room_for new s) ∙ last; state = state ∙ (λ i. cond (is_ok r) (after i) s) }

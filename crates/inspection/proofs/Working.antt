@@ -100,14 +100,14 @@ module _ (set : Shape → Bool) (ps : List Point) (fs : List Face) where
 
 -- ---- as a loop over both lists goes on
 module _ (set : Shape → Bool) (ps : List Point) (fs : List Face) where
-  pub worked-on : (qs : List Request) (rs : List Answer) (i : ℕ) (d : Request) (a : Answer) (s t u : State) → i < length qs → i < length rs
+  pub worked_on : (qs : List Request) (rs : List Answer) (i : ℕ) (d : Request) (a : Answer) (s t u : State) → i < length qs → i < length rs
       → Steps set ps fs (take i qs) (take i rs) s t → RequestStep set ps fs (get_or qs i d) a t u
       → Steps set ps fs (take (i + 1) qs) (take (i + 1) (list_set rs i a)) s u
-  worked-on qs rs i d a s t u h k w b =
+  worked_on qs rs i d a s t u h k w b =
       rw (take_more qs i d h, take_more_set rs i a k) (worked-more set ps fs (take i qs) (take i rs) (get_or qs i d) a s t u w b)
 
-pub rest-more : {A : Type 0} (xs ys : List A) (i : ℕ) (a : A) → drop i xs ≡ drop i ys → drop (i + 1) (list_set xs i a) ≡ drop (i + 1) ys
-rest-more xs ys i a e = drop-set-lt (i + 1) xs i a (omega arith) ∙ sym (drop-drop 1 i xs) ∙ ap (drop 1) e ∙ drop-drop 1 i ys
+pub rest_more : {A : Type 0} (xs ys : List A) (i : ℕ) (a : A) → drop i xs ≡ drop i ys → drop (i + 1) (list_set xs i a) ≡ drop (i + 1) ys
+rest_more xs ys i a e = drop-set-lt (i + 1) xs i a (omega arith) ∙ sym (drop-drop 1 i xs) ∙ ap (drop 1) e ∙ drop-drop 1 i ys
 
 -- ---- an opened inspection that was worked
 pub runs-on : (set : Shape → Bool) (ps : List Point) (fs : List Face) (d : Draft) (k : ℕ) (vf : Contents VfName) (ee : Contents EeName) (qs : List Request) (rs : List Answer) (t : State) → k ≤ 6

@@ -1,4 +1,5 @@
--- The claim: what a run's lists and counts say of every test that its accepted offers hold.
+-- The claim: what a run's lists and counts say of every test that its accepted offers hold,
+-- and of another run over the same sheet.
 use Rattle.std.specs.Prelude.{◌≡◌, ◌⊎◌, ◌↔◌, ℕ, ◌+◌, ◌*◌, ◌<◌, ◌≤◌, Bool, IsTrue, IsFalse, not, ◌&&◌, List, length, count_by}
 use Rattle.std.specs.List.{sum_by}
 use Rattle.sheet.specs.declared.drafts.Draft.{Draft}

@@ -10,6 +10,7 @@ pub mod Judges
 pub mod Faults
 pub mod States
 pub mod Offers
+pub mod PairOutcomes
 pub mod Windows
 pub mod Runs
 pub mod Requests

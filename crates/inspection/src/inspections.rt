@@ -1,5 +1,4 @@
-// `Inspection` alone, since no file with a ghost field may import what speaks of the struct.
-// What it does stands in inspections/.
+// The inspection itself. What can be done with it stands in inspections/.
 ghost use Rattle.std.specs.Prelude.{◌≡◌, ◌*◌, ◌≤◌};
 ghost use Rattle.inspection.specs.Tallies.{total, tally_in};
 ghost use Rattle.inspection.specs.declared.kinds.ListKind.TheVariants.{Vf, Ee};

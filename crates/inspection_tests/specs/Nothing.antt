@@ -8,4 +8,8 @@ abbrev pub nothing : Shape → Bool
 nothing t = false
 
 pub nothing_lawful : Lawful nothing
-nothing_lawful = record { apart = λ t v e. absurd (false≢true e); halves = λ t v k e. absurd (false≢true e) }
+nothing_lawful =
+    record {
+      apart = λ t v e. absurd (false≢true e);
+      halves = λ t v k e. absurd (false≢true e);
+    }

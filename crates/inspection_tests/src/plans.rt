@@ -33,7 +33,8 @@ pub(crate) fn crossing() -> Result<Plan, Fail> {
     Ok(plan)
 }
 
-/// The first face turns while a corner of the second passes by: depth 0 passes that test, and depth 1 strikes it.
+/// The first face turns while a corner of the second passes by: depth 0 passes that test, and depth
+/// 1 strikes it.
 pub(crate) fn turning() -> Result<Plan, Fail> {
     let mut plan = read(
         "v 0 0 0\nv 1 0 0\nv 0 1 0\nv 2 0 2\nv 50 50 50\nv 60 50 50\nf 1 2 3\nf 4 5 6\n",

@@ -5,7 +5,8 @@ use inspection::{EeName, List, OfferFault, VfName};
 use std::process::Abort;
 use std::test::Fail;
 
-/// Offers two faces, all of whose tests are kept, to lists over these places; where that is refused, all is as it was.
+/// Offers two faces, all of whose tests are kept, to lists over these places; where that is refused,
+/// all is as it was.
 fn offer_to(
     rt: &impl Abort,
     vf_places: &mut [VfName],

@@ -52,7 +52,8 @@ times3-le : (g : ℤ) (n : ℕ) → g <ℤ pos 0 → (pos 3 *ℤ g *ℤ pos n) �
 times3-le g n h =
     subst (λ (x : ℤ). x ≤ℤ neg_ℤ (pos (3 * n))) (ring (g ∷ pos n ∷ []) (var 0 ⊗ (con (pos 3) ⊗ var 1)) (con (pos 3) ⊗ var 0 ⊗ var 1) tt) (times-le g (3 * n) h)
 
--- the sum, with no product in sight: `omega` meets a bound of its own where it has all of these products to look into
+-- the sum, with no product in sight: `omega` meets a bound of its own where it has all of these
+-- products to look into
 four-below : (x a b c d : ℤ) (k l m n : ℕ) → x ≡ a +ℤ b +ℤ c +ℤ d → a ≤ℤ neg_ℤ (pos k) → b ≤ℤ neg_ℤ (pos l) → c ≤ℤ neg_ℤ (pos m) → d ≤ℤ neg_ℤ (pos n) → x ≤ℤ neg_ℤ (pos (k + l + m + n))
 four-below x a b c d k l m n e ha hb hc hd = omega (arith, ints)
 

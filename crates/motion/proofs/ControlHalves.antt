@@ -1,4 +1,5 @@
--- The control values of the two halves of a move: eight identities by `ring`, then the signs by `omega`, to which each control value is an unknown.
+-- The control values of the two halves of a move: eight identities by `ring`, then the signs by
+-- `omega`, to which each control value is an unknown.
 use Rattle.std.proofs.Common.{◌≡◌, [], ℤ, pos, ◌+ℤ◌, ◌*ℤ◌, arith}
 use borrow.Author.Differences.{ints}
 use Rattle.motion.proofs.Determinants.{Triple, G0, G1, G2, G3, sum, Above, Below}

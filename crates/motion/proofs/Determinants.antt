@@ -1,4 +1,5 @@
--- The control values once more, as determinants: the form in which they are halved, summed and bounded.
+-- The control values once more, as determinants: the form in which they are halved, summed and
+-- bounded.
 use Rattle.std.proofs.Common.{◌⊎◌, ℤ, pos, ◌+ℤ◌, ◌*ℤ◌, ◌<ℤ◌}
 use Rattle.motion.specs.declared.shapes.V3.{V3}
 use Rattle.motion.specs.declared.shapes.Shape.{Shape}

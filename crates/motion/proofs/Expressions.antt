@@ -1,4 +1,5 @@
--- The words of the specs once more, over the ring prover's expressions. `eval` takes each to its namesake by computation.
+-- The words of the specs once more, over the ring prover's expressions. `eval` takes each to its
+-- namesake by computation.
 use Rattle.std.proofs.Common.{ℕ, suc, List, ◌∷◌, ℤ, pos}
 use Rattle.motion.specs.declared.shapes.V3.{V3}
 use Rattle.motion.specs.declared.shapes.Shape.{Shape}

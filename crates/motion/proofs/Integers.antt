@@ -1,6 +1,7 @@
--- The laws of a commutative ring that lib.IntN does not state: its product has no associativity and no distributivity there.
--- Each is read by `omega` through the two parts of an integer (borrow.Author.Differences). `omega` is linear in monomials, so a
--- fact about a sum or a product that is itself a factor is handed over multiplied by the other factor (`ap (λ n. n * up c) ..`).
+-- The laws of a commutative ring that lib.IntN does not state: its product has no associativity and
+-- no distributivity there. Each is read by `omega` through the two parts of an integer
+-- (borrow.Author.Differences). `omega` is linear in monomials, so a fact about a sum or a product
+-- that is itself a factor is handed over multiplied by the other factor (`ap (λ n. n * up c) ..`).
 use Rattle.std.proofs.Common.{◌≡◌, ℕ, ◌*◌, ℤ, pos, ◌+ℤ◌, ◌*ℤ◌, neg_ℤ, ap, ◌∙◌, arith}
 use lib.IntN.{*ℤ_comm}
 use borrow.Author.Differences.{up, down, same_in, sum_is_lem, neg_is, product_is}

@@ -1,4 +1,5 @@
--- A direction along which each point of one feature stays beyond each of the other keeps any two points of theirs apart.
+-- A direction along which each point of one feature stays beyond each of the other keeps any two
+-- points of theirs apart.
 use Rattle.std.proofs.Common.{◌≡◌, ℕ, ◌+◌, ◌-◌, ◌*◌, ◌≤◌, List, [], ◌∷◌, map, length, ℤ, pos, negsuc, ◌+ℤ◌, ◌*ℤ◌, neg_ℤ, nat_abs, ◌≤ℤ◌, ◌<ℤ◌, sym, subst, mul-le-mul_right, mul-pos, arith}
 use borrow.Author.Differences.{ints}
 use Rattle.motion.specs.declared.shapes.V3.{V3}

@@ -1,4 +1,5 @@
--- A subinterval of a half is a subinterval of the whole; a half of a test within its bounds is within its own.
+-- A subinterval of a half is a subinterval of the whole; a half of a test within its bounds is
+-- within its own.
 use Rattle.std.proofs.Common.{◌≡◌, ℕ, suc, ◌+◌, ◌*◌, ◌^◌, ◌≤◌, [], ◌∷◌, ℤ, pos, ◌+ℤ◌, ◌-ℤ◌, ◌*ℤ◌, nat_abs, refl, ap, ◌∙◌, add_assoc, mul_comm, pow-suc, arith}
 use Rattle.motion.specs.declared.shapes.V3.{V3}
 use Rattle.motion.specs.declared.shapes.Moving.{Moving}

@@ -1,4 +1,5 @@
--- The difference of two weighted points, times the normal of the two features, is the determinant times the sums of the weights.
+-- The difference of two weighted points, times the normal of the two features, is the determinant
+-- times the sums of the weights.
 use Rattle.std.proofs.Common.{◌≡◌, ℕ, ◌+◌, [], ◌∷◌, pos, ◌*ℤ◌, neg_ℤ}
 use Rattle.motion.specs.declared.shapes.V3.{V3}
 use Rattle.motion.specs.Vectors.{◌+ᵛ◌, ◌-ᵛ◌, ◌·ᵛ◌, dot, cross, origin}

@@ -1,11 +1,11 @@
 -- The worked cases hold: each by computation.
-use Rattle.std.proofs.Common.{[], ◌∷◌, refl, arith}
+use Rattle.std.proofs.Common.{◌≡◌, [], ◌∷◌, pos, negsuc, map, refl, arith}
 use Rattle.motion.specs.Vectors.{◌+ᵛ◌, ◌-ᵛ◌, ◌·ᵛ◌, dot, cross}
 use Rattle.motion.specs.Features.{first, second}
 use Rattle.motion.specs.Laws.{Apart, Far, on-x, on-y, on-z, at, after, difference}
 use Rattle.motion.specs.Plane.{controls}
 use Rattle.motion.specs.Depths.{struck_at, first_passed, last_passed, window_at}
-use Rattle.motion.specs.Cases.{crossing, Cases}
+use Rattle.motion.specs.Cases.{crossing, values, worked_tests, Cases}
 
 -- at 1/2 the point is the mean of the corners with the weights 2, 1, 1
 at-half : Far 0 8 (difference 1 2 (1 ∷ []) (first crossing) (2 ∷ 1 ∷ 1 ∷ []) (second crossing)) → ⊥
@@ -48,3 +48,12 @@ cases =
       sinking_values = refl;
       sinking_answers = (refl, refl, refl);
     }
+
+pub worked_values :
+    map controls worked_tests
+    ≡ values (pos 48) (pos 80) (pos 112) (pos 144) ∷ values (pos 48) (pos 16) (negsuc 15) (negsuc 47)
+    ∷ values (pos 48) (pos 32) (pos 16) (pos 0) ∷ values (pos 0) (pos 0) (pos 0) (pos 0)
+    ∷ values (pos 48) (pos 48) (pos 48) (pos 48) ∷ values (pos 6) (pos 0) (pos 0) (pos 6)
+    ∷ values (negsuc 47) (negsuc 15) (pos 16) (pos 48) ∷ []
+unfolding ◌+ᵛ◌ ◌-ᵛ◌ ◌·ᵛ◌ dot cross at controls
+worked_values = refl

@@ -1,5 +1,5 @@
 -- Seven tests worked out by hand, as one statement about the rules.
-use Rattle.std.specs.Prelude.{◌≡◌, ℕ, Bool, true, false, Some, ℤ, pos, neg_ℤ, IsTrue}
+use Rattle.std.specs.Prelude.{◌≡◌, ℕ, Bool, true, false, Some, List, [], ◌∷◌, ℤ, pos, neg_ℤ, IsTrue}
 use Rattle.motion.specs.declared.shapes.V3.{V3}
 use Rattle.motion.specs.declared.shapes.Kind.TheVariants.{Vf, Ee}
 use Rattle.motion.specs.declared.shapes.Moving.{Moving}
@@ -34,7 +34,7 @@ vf p a b c = record { kind = Vf; p = p; a = a; b = b; c = c; scale = 0 }
 abbrev ee : Moving → Moving → Moving → Moving → Shape
 ee u v k l = record { kind = Ee; p = l; a = k; b = u; c = v; scale = 0 }
 
-abbrev values : ℤ → ℤ → ℤ → ℤ → Controls
+abbrev pub values : ℤ → ℤ → ℤ → ℤ → Controls
 values a b c d = record { g0 = a; g1 = b; g2 = c; g3 = d }
 
 -- against the resting face (0,0,0), (4,0,0), (0,4,0)
@@ -74,6 +74,11 @@ sinking =
     ee (resting (vector (minus 2) (pos 0) (pos 0))) (resting (place 2 0 0))
     (vector (pos 0) (minus 2) (pos 1) to vector (pos 0) (minus 2) (minus 1))
     (place 0 2 1 to vector (pos 0) (pos 2) (minus 1))
+
+-- the seven of them
+abbrev pub worked_tests : List Shape
+worked_tests =
+    leaving ∷ crossing ∷ landing ∷ beside ∷ rising ∷ turning ∷ sinking ∷ []
 
 -- what Box, Slab and Plane answer
 abbrev Answers : Shape → Bool → Bool → Bool → Type 0

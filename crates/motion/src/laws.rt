@@ -1,33 +1,50 @@
-// The mathematics, as the contract of a function.
-ghost use Rattle.std.specs.Prelude.{◌≡◌, ℕ, Bool};
+// The mathematics, as the contracts of functions.
+ghost use Rattle.std.specs.Prelude.{◌≡◌, ℕ, Bool, map};
 ghost use Rattle.motion.specs.declared.shapes.Shape.{Shape};
 ghost use Rattle.motion.specs.Laws.{Lawful};
 ghost use Rattle.motion.specs.Box.{box_set};
 ghost use Rattle.motion.specs.Slab.{slab_set, ListsAllDirections};
-ghost use Rattle.motion.specs.Plane.{plane_set, NeverCoplanar};
+ghost use Rattle.motion.specs.Plane.{controls, plane_set, NeverCoplanar};
 ghost use Rattle.motion.specs.Depths.{FindsWindow};
-ghost use Rattle.motion.specs.Cases.{Cases};
+ghost use Rattle.motion.specs.Cases.{values, worked_tests, Cases};
 
-/// How many filters are delivered: the sets of the three keep both laws, what Plane strikes is never in one plane, and Slab's directions
-/// are the ones that its rule describes.
+use crate::shapes::Controls;
+
+/// The sets of the three delivered filters keep both laws, what Plane strikes is never in one
+/// plane, and Slab's directions are the ones that its rule describes.
 ///
-/// For any set, the window is the first and the last subinterval that it lacks, and there is none exactly where it has them all (`windows`).
-pub fn laws_hold() -> u8
-    ensures count { result ≡ 3 }
+/// For any set, the window is the first and the last subinterval that it lacks, and there is none
+/// exactly where it has them all (`windows`).
+pub fn laws_hold()
     ensures boxes { Lawful box_set }
     ensures slabs { Lawful slab_set }
     ensures planes { Lawful plane_set }
     ensures never_coplanar { NeverCoplanar }
     ensures directions { ListsAllDirections }
     ensures windows { (set : Shape → Bool) → (d : ℕ) → (t : Shape) → FindsWindow set d t }
-{
-    3
-}
+{}
 
-/// How many tests are worked out by hand: each comes out by the rules as it should, and the one that touches is not apart.
-pub fn worked_cases() -> u8
-    ensures count { result ≡ 7 }
+/// The control values of seven tests, as they were worked out by hand: they are those of the rule.
+///
+/// Each test comes out by the rules as it should, and the one that touches is not apart (`cases`).
+#[tactic(auto, using(crate::proofs::Worked::worked_values))]
+pub fn worked_cases() -> [Controls; 7]
+    ensures values { result ≡ map controls worked_tests }
     ensures cases { Cases }
 {
-    7
+    [
+        values(48, 80, 112, 144),
+        values(48, 16, -16, -48),
+        values(48, 32, 16, 0),
+        values(0, 0, 0, 0),
+        values(48, 48, 48, 48),
+        values(6, 0, 0, 6),
+        values(-48, -16, 16, 48),
+    ]
+}
+
+fn values(g0: i64, g1: i64, g2: i64, g3: i64) -> Controls
+    ensures { result ≡ values g0 g1 g2 g3 }
+{
+    Controls { g0, g1, g2, g3 }
 }

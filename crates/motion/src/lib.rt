@@ -1,5 +1,6 @@
-//! Tests of two moving features as plain data, and their mathematics: what it means that two features stay apart, the two laws that a
-//! filter owes, and the sets of three filters that keep them.
+//! Tests of two moving features as plain data, and their mathematics: what it means that two
+//! features stay apart, the two laws that a filter owes, and the sets of three filters that keep
+//! them.
 #![tactic(auto)]
 
 mod laws;

@@ -24,8 +24,8 @@ pub enum Kind {
     Ee,
 }
 
-/// A test: the point p against the face a, b, c; or the edge from b to c against the edge from a to p.
-/// Its coordinates are on a grid that is 2^scale times as fine as the sheet's.
+/// A test: the point p against the face a, b, c; or the edge from b to c against the edge from a to
+/// p. Its coordinates are on a grid that is 2^scale times as fine as the sheet's.
 #[derive(Clone, Copy)]
 pub struct Shape {
     pub kind: Kind,

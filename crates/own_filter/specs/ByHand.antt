@@ -14,6 +14,10 @@ use Rattle.inspection.specs.Sheets.{sheet_in}
 use Rattle.inspection.specs.States.{State, with_depth}
 use Rattle.inspection.specs.Offers.{offer_checks, state_after}
 
+-- the depth set to 3
+abbrev pub deeper : State → State
+deeper s = record s { core = with_depth 3 s.core }
+
 -- by a filter's set, over these tables
 module _ (set : Shape → Bool) (ps : List Point) (fs : List Face) where
   -- the fault of an offer in the state s
@@ -28,9 +32,7 @@ module _ (set : Shape → Bool) (ps : List Point) (fs : List Face) where
 
   -- what both offers leave, where the first is accepted
   abbrev pub after_both : ℕ → ℕ → State → State
-  after_both f g s =
-      let t = after_offer (Faces f g) s in
-      after_offer (Faces g f) (record t { core = with_depth 3 t.core })
+  after_both f g s = after_offer (Faces g f) (deeper (after_offer (Faces f g) s))
 
 -- the counts of both kinds of tests
 abbrev pub counts_in : State → Counts

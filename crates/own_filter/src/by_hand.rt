@@ -3,18 +3,20 @@ ghost use Rattle.std.specs.Prelude.{◌≡◌, ◌↔◌, IsNone, IsSome, IfNone
 ghost use Rattle.inspection.specs.Offerings.{Faces};
 ghost use Rattle.inspection.specs.Sheets.{sheet_in};
 ghost use Rattle.inspection.specs.Lists.{contents_of, entries, without_entries};
-ghost use Rattle.inspection.specs.States.{state_at_start};
+ghost use Rattle.inspection.specs.States.{state_of, state_at_start};
+ghost use Rattle.inspection.specs.Offers.{OfferStep};
 ghost use Rattle.own_filter.specs.ByHand.{fault_of_offer, after_both, counts_in};
 ghost use Rattle.own_filter.specs.Conclusions.{Conclusion};
 
 use filters::Filter;
-use inspection::{Counts, EeName, Inspection, List, VfName};
+use inspection::{Counts, EeName, Inspection, List, OfferFault, VfName};
 use sheet::{Draft, Face, Point};
 
-/// Offers two faces at depth 2, is refused, sets the depth to 3, asks for a window, and offers them the other way round.
+/// Offers two faces at depth 2, is refused, sets the depth to 3, asks for a window, and offers them
+/// the other way round.
 ///
-/// The counts, or none where the first offer is refused. What a crew concludes from them and from the lists rests on the claim
-/// that comes with the findings, and on nothing else of the inspection.
+/// The counts, or none where the first offer is refused. What a crew concludes from them and from
+/// the lists rests on the claim that comes with the findings, and on nothing else of the inspection.
 pub fn inspect_by_hand<F: Filter + Drop>(
     draft: Draft,
     filter: F,
@@ -41,15 +43,76 @@ pub fn inspect_by_hand<F: Filter + Drop>(
         IfSome result (λ counts.
         Conclusion set sheet first second (entries vf.new) (entries ee.new) counts) }
 {
-    let Ok(mut inspection) = Inspection::open(draft, filter, 2, vf, ee) else {
-        return None;
-    };
-    let Ok(()) = inspection.offer(points, faces, vf, ee, first, second) else {
+    let inspection = open(draft, filter, vf, ee);
+    let Some(mut inspection) = accepted(inspection, points, faces, vf, ee, first, second) else {
         return None;
     };
     let _ = inspection.offer(points, faces, vf, ee, first, first);
     let _ = inspection.set_depth(3);
     let _ = inspection.window(points, faces, vf, 0);
-    let _ = inspection.offer(points, faces, vf, ee, second, first);
+    let _ = offer_turned(&mut inspection, points, faces, vf, ee, first, second);
     Some(inspection.findings(vf, ee))
+}
+
+/// Opens at depth 2, which is never refused.
+fn open<F: Filter + Drop>(
+    draft: Draft,
+    filter: F,
+    vf: &mut List<'_, VfName>,
+    ee: &mut List<'_, EeName>,
+) -> Inspection<F>
+    ensures state { state_of result vf.new ee.new
+        ≡ state_at_start draft 2 (contents_of vf.old) (contents_of ee.old) }
+    ensures filter { result.filter ≡ filter }
+{
+    let Ok(inspection) = Inspection::open(draft, filter, 2, vf, ee) else {
+        unreachable!()
+    };
+    inspection
+}
+
+/// The inspection after an offer, or none where that is refused.
+fn accepted<F: Filter + Drop>(
+    mut inspection: Inspection<F>,
+    points: &[Point],
+    faces: &[Face],
+    vf: &mut List<'_, VfName>,
+    ee: &mut List<'_, EeName>,
+    first: u16,
+    second: u16,
+) -> Option<Inspection<F>>
+    ensures refused { let set = F.Filter.struck inspection.filter in
+        let start = state_of inspection vf.old ee.old in
+        let fault = fault_of_offer set points.now faces.now (Faces first second) start in
+        IsNone result ↔ IsSome fault }
+    ensures refused_vf { IfNone result (contents_of vf.new ≡ contents_of vf.old) }
+    ensures refused_ee { IfNone result (contents_of ee.new ≡ contents_of ee.old) }
+    ensures step { let set = F.Filter.struck inspection.filter in
+        let start = state_of inspection vf.old ee.old in
+        IfSome result (λ i. OfferStep set points.now faces.now (Faces first second) start (Ok tt)
+        (state_of i vf.new ee.new)) }
+    ensures filter { IfSome result (λ i. i.filter ≡ inspection.filter) }
+{
+    let Ok(()) = inspection.offer(points, faces, vf, ee, first, second) else {
+        return None;
+    };
+    Some(inspection)
+}
+
+/// Offers two faces the other way round.
+fn offer_turned<F: Filter>(
+    inspection: &mut Inspection<F>,
+    points: &[Point],
+    faces: &[Face],
+    vf: &mut List<'_, VfName>,
+    ee: &mut List<'_, EeName>,
+    first: u16,
+    second: u16,
+) -> Result<(), OfferFault>
+    ensures step { OfferStep (F.Filter.struck inspection.old.filter) points.now faces.now
+        (Faces second first) (state_of inspection.old vf.old ee.old) result
+        (state_of inspection.new vf.new ee.new) }
+    ensures filter { inspection.new.filter ≡ inspection.old.filter }
+{
+    inspection.offer(points, faces, vf, ee, second, first)
 }

@@ -1,4 +1,5 @@
-//! An example for those who make a filter of their own: it shows two laws about its set, and then goes where ours go.
+//! An example for those who make a filter of their own: it shows two laws about its set, and then
+//! goes where ours go.
 #![tactic(auto)]
 
 ghost use Rattle.std.specs.Prelude.{◌≡◌, ◌+◌, Some, None, if◌then◌else◌, nat_le};
@@ -33,7 +34,8 @@ fn main(rt: HostRuntime) -> io::Result<()> {
     inspect(&rt)
 }
 
-/// An inspection of two faces, a corner of one of which sinks through the other, with our row behind the filter of this crate.
+/// An inspection of two faces, a corner of one of which sinks through the other, with our row behind
+/// the filter of this crate.
 fn inspect(rt: &HostRuntime) -> io::Result<()> {
     let text = b"v 0 0 0\nv 4 0 0\nv 0 4 0\nv 1 1 1\nv 1 1 9\nv 2 1 9\nf 1 2 3\nf 4 5 6\n";
     let mut points = [Point::default(); 6];

@@ -7,7 +7,8 @@ ghost use Rattle.own_filter.specs.StackedLaws.{stacked-lawful};
 use filters::{Filter, Test};
 use motion::{Kind, Moving, Shape, V3};
 
-/// Strikes where each point of the first feature is lower than each of the second, at the start and at the end.
+/// Strikes where each point of the first feature is lower than each of the second, at the start and
+/// at the end.
 #[derive(Clone, Copy)]
 pub struct Stacked;
 

@@ -1,8 +1,8 @@
 -- A run over a host, file by file.
-use Rattle.std.proofs.Common.{◌≡◌, ℕ, ◌+◌, ◌≤◌, Bool, false, List, [], ◌∷◌, ◌++◌, All, length, take, replicate, Some, None, Ok, Err, Result, IfOk, refl, sym, ap, ◌∙◌, subst}
+use Rattle.std.proofs.Common.{◌≡◌, ℕ, ◌+◌, ◌≤◌, false, List, [], ◌∷◌, ◌++◌, All, length, take, replicate, Some, None, Ok, Err, Result, IfOk, refl, sym, ap, ◌∙◌, subst}
 use Rattle.std.proofs.lemmas.List.Elements.{All-cons, All-nil, All-head, All-tail, All-replicate}
-use Rattle.hosts.specs.Events.{Event, Read, Call, Reading, Printing, files_read, unread, asked, came}
-use Rattle.hosts.specs.Traces.{Went, nothing}
+use Rattle.hosts.specs.Events.{Event, Read, Call, Reading, files_read, unread}
+use Rattle.hosts.specs.Traces.{nothing}
 use Rattle.hosts.specs.Works.{Prints}
 use Rattle.hosts.proofs.Histories.{went_first, prints_read_nothing}
 use Rattle.sheet.specs.Checks.{first_fit}
@@ -14,8 +14,8 @@ use Rattle.sheet.specs.declared.rows.Point.{Point}
 use Rattle.sheet.specs.declared.rows.Face.{Face}
 use Rattle.step.specs.Laying.{lay_checks, with_ends}
 use Rattle.step.specs.Limit.{record_limit}
-use Rattle.printout.specs.Outcomes.{same_file, ReadsPlan, EndsWith, StopsWith, Inspects}
-use Rattle.printout.specs.Phases.{FitsFile, HoldsSheet, HoldsPlan, NotTheSheet, after_sheet, StepRan, PairsRan}
+use Rattle.printout.specs.Outcomes.{same_file, ReadsPlan, Inspects}
+use Rattle.printout.specs.Phases.{FitsFile, HoldsSheet, after_sheet, StepRan, PairsRan}
 use Rattle.printout.specs.Plans.{Plan, fault, sheet_fault, step_fault, or_else, files_after, needed}
 use Rattle.printout.specs.Printouts.{notice_line}
 use Rattle.printout.specs.declared.endings.Ending.{Ending}
@@ -108,8 +108,10 @@ module _ {S E : Type 0} (does : S → Event PlanFile → S → Type 0) (fails : 
           before = s;
           went = nothing;
           failed = f;
-          part = (All-cons (λ g. same_file Sheet g ≡ false) Step [] refl (All-nil (λ g. same_file Sheet g ≡ false)),
-          λ p holds step pairs. stops_unread p (after_sheet p) Step (files_after (step_fault p) []) refl);
+          part = (
+            All-cons (λ g. same_file Sheet g ≡ false) Step [] refl (All-nil (λ g. same_file Sheet g ≡ false)),
+            λ p holds step pairs. stops_unread p (after_sheet p) Step (files_after (step_fault p) []) refl,
+          );
         }
 
     module _ (s m t : S) (size : ℕ) (bytes : List ℕ) (did : does s (Read Step size bytes) m) (limit : size ≡ record_limit + 1) (room : d.points ≤ length ps) (few : d.points ≤ point_limit) where
@@ -130,8 +132,9 @@ module _ {S E : Type 0} (does : S → Event PlanFile → S → Type 0) (fails : 
               good = (
                 All-cons (λ g. same_file Sheet g ≡ false) Step (files_read print.events) refl (silent Sheet (files_read print.events) none),
                 λ p h step pairs.
-                let has = step_has p print.events h none step in
-                ends_faulty p (after_sheet p) n ((λ i. or_else (h.no_fault i) (step_fault p)) ∙ has) Step size bytes (ap (λ o. Step ∷ files_after o []) has) print.events end print.good faulty);
+                    let has = step_has p print.events h none step in
+                    ends_faulty p (after_sheet p) n ((λ i. or_else (h.no_fault i) (step_fault p)) ∙ has) Step size bytes (ap (λ o. Step ∷ files_after o []) has) print.events end print.good faulty,
+              );
             }
         step_faulty (Err e) print faulty =
             let none = prints_read_nothing print.events print.part.alone in
@@ -143,10 +146,11 @@ module _ {S E : Type 0} (does : S → Event PlanFile → S → Type 0) (fails : 
               failed = print.failed;
               part = (
                 All-cons (λ g. same_file Sheet g ≡ false) Step (files_read print.events ++ unread print.call) refl
-                (silent Sheet (files_read print.events ++ unread print.call) (λ i. none i ++ unread (print.part.failed i))),
+                    (silent Sheet (files_read print.events ++ unread print.call) (λ i. none i ++ unread (print.part.failed i))),
                 λ p h step pairs.
-                let has = step_has p print.events h none step in
-                stops_faulty p (after_sheet p) n ((λ i. or_else (h.no_fault i) (step_fault p)) ∙ has) Step size bytes (ap (λ o. Step ∷ files_after o []) has) print.events print.call print.part);
+                    let has = step_has p print.events h none step in
+                    stops_faulty p (after_sheet p) n ((λ i. or_else (h.no_fault i) (step_fault p)) ∙ has) Step size bytes (ap (λ o. Step ∷ files_after o []) has) print.events print.call print.part,
+              );
             }
 
       later : (p : Plan) → fault p ≡ None → HoldsSheet p d ps fs → step_fault p ≡ None
@@ -163,9 +167,10 @@ module _ {S E : Type 0} (does : S → Event PlanFile → S → Type 0) (fails : 
             good = (
               All-cons (λ g. same_file Sheet g ≡ false) Step (files_read ran.events) refl (only Sheet refl),
               λ p h step pairs.
-              let holds = holds_plan p d ps fs h room few size bytes limit (first p ran.events (only Step refl) step) none in
-              ends_after p (λ n. replicate n Pairs) Step size bytes (after_sheet p) (λ n. ap (λ o. Step ∷ files_after o (replicate n Pairs)) (later p holds.no_fault h)) refl ran.events end
-              (ran.good.1 p holds pairs));
+                  let holds = holds_plan p d ps fs h room few size bytes limit (first p ran.events (only Step refl) step) none in
+                  ends_after p (λ n. replicate n Pairs) Step size bytes (after_sheet p) (λ n. ap (λ o. Step ∷ files_after o (replicate n Pairs)) (later p holds.no_fault h)) refl ran.events end
+                  (ran.good.1 p holds pairs),
+            );
           }
       step_accepted none (Err e) ran =
           let files = ran.part.0 in
@@ -179,7 +184,8 @@ module _ {S E : Type 0} (does : S → Event PlanFile → S → Type 0) (fails : 
             part = (
               All-cons (λ g. same_file Sheet g ≡ false) Step (files_read ran.events ++ unread ran.call) refl (only Sheet refl),
               λ p h step pairs.
-              let holds = holds_plan p d ps fs h room few size bytes limit (first p ran.events (All-front (λ g. same_file Step g ≡ false) (files_read ran.events) (unread ran.call) (only Step refl)) step) none in
-              stops_after p (λ n. replicate n Pairs) Step size bytes (after_sheet p) (λ n. ap (λ o. Step ∷ files_after o (replicate n Pairs)) (later p holds.no_fault h)) refl ran.events ran.call
-              (ran.part.1 p holds pairs));
+                  let holds = holds_plan p d ps fs h room few size bytes limit (first p ran.events (All-front (λ g. same_file Step g ≡ false) (files_read ran.events) (unread ran.call) (only Step refl)) step) none in
+                  stops_after p (λ n. replicate n Pairs) Step size bytes (after_sheet p) (λ n. ap (λ o. Step ∷ files_after o (replicate n Pairs)) (later p holds.no_fault h)) refl ran.events ran.call
+                  (ran.part.1 p holds pairs),
+            );
           }

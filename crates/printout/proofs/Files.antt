@@ -1,25 +1,25 @@
 -- The pairs of a file, offered piece by piece.
-use Rattle.std.proofs.Common.{◌≡◌, ◌⊎◌, inl, inr, ℕ, ◌+◌, ◌-◌, ◌*◌, ◌<◌, ◌≤◌, Bool, false, if◌then◌else◌, List, [], ◌∷◌, ◌++◌, All, length, take, drop, replicate, flat_map, Ok, Err, Result, refl, sym, ap, ◌∙◌, subst, arith, append_assoc, append-nil, length-append, length-take}
+use Rattle.std.proofs.Common.{◌≡◌, ◌⊎◌, inl, inr, ℕ, ◌+◌, ◌-◌, ◌*◌, ◌<◌, ◌≤◌, Bool, false, List, [], ◌∷◌, ◌++◌, All, length, take, drop, Ok, Err, refl, sym, ap, ◌∙◌, subst, arith, append_assoc, append-nil, length-append, length-take}
 use Rattle.std.proofs.Math.Nat.{eq-or-lt_of_le}
 use Rattle.std.proofs.lemmas.List.{take_all, take-append-drop, replicate-append-replicate}
 use Rattle.std.proofs.lemmas.List.Concat.{flat_map-append}
 use Rattle.std.proofs.lemmas.List.Elements.{All-nil}
 use Rattle.std.proofs.lemmas.List.Sums.{sum_by-append, sum_by-cons, fold-append}
 use Rattle.hosts.specs.Events.{Event, Read, Call, Reading, printed, stored, files_read, unread, asked, came, printed_by, stored_by, file_read_by, asked_by, came_by}
-use Rattle.hosts.specs.Traces.{Went, nothing, next}
-use Rattle.hosts.specs.Works.{Worked, Finished, Stopped, IsFront}
-use Rattle.hosts.proofs.Fronts.{whole, front_of}
+use Rattle.hosts.specs.Traces.{nothing, next}
+use Rattle.hosts.specs.Works.{Finished, IsFront}
+use Rattle.hosts.proofs.Fronts.{whole}
 use Rattle.hosts.proofs.Histories.{went_on, not_asked, not_came}
 use Rattle.sheet.specs.declared.drafts.Draft.{Draft}
 use Rattle.sheet.specs.declared.rows.Point.{Point}
 use Rattle.sheet.specs.declared.rows.Face.{Face}
 use Rattle.motion.specs.declared.shapes.Shape.{Shape}
-use Rattle.inspection.specs.Offerings.{Offering, Faces}
+use Rattle.inspection.specs.Offerings.{Faces}
 use Rattle.inspection.specs.PairBytes.{number_of}
 use Rattle.inspection.specs.Sheets.{Sheet}
 use Rattle.inspection.specs.States.{State}
 use Rattle.printout.specs.Outcomes.{same_file}
-use Rattle.printout.specs.Progress.{Made, Tells, TellsInPart, Offers, pairs_came, ReadsPairs, CameWhole, TellsFile, TellsFileInPart, OffersFile}
+use Rattle.printout.specs.Progress.{Made, Offers, pairs_came, ReadsPairs, CameWhole, TellsFile, TellsFileInPart, OffersFile}
 use Rattle.printout.specs.Walks.{Walk, pairs_in, offered, walked, refusal_lines, refused_pairs}
 use Rattle.printout.specs.declared.plan_files.PlanFile.{PlanFile}
 use Rattle.printout.specs.declared.plan_files.PlanFile.TheVariants.{Pairs}
@@ -133,7 +133,8 @@ module _ {S E : Type 0} (does : S → Event PlanFile → S → Type 0) (fails : 
             number = 0;
             fours = refl;
           },
-          m);
+          m,
+        );
       }
 
   -- a piece can't be read
@@ -230,7 +231,8 @@ module _ {S E : Type 0} (does : S → Event PlanFile → S → Type 0) (fails : 
               number = told.number + m;
               fours = fours_came sheet w v es gs told quiet full;
             },
-            b.good.1);
+            b.good.1,
+          );
         }
 
     -- it was short: that is the end
@@ -255,7 +257,8 @@ module _ {S E : Type 0} (does : S → Event PlanFile → S → Type 0) (fails : 
               files = files_then sheet w v es gs told quiet;
               whole = came_whole sheet w v es gs told quiet short;
             },
-            b.good.1);
+            b.good.1,
+          );
         }
 
     -- a call fails while its pairs are offered

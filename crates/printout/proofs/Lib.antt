@@ -2,6 +2,7 @@ pub mod FileByFile
 pub mod Files
 pub mod Offers
 pub mod Phases
+pub mod Reported
 pub mod Requests
 pub mod Rows
 pub mod Telling

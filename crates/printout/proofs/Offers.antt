@@ -1,11 +1,11 @@
 -- An offer makes one more step of the walk.
-use Rattle.std.proofs.Common.{◌≡◌, ℕ, ◌+◌, ◌-◌, ◌<◌, ◌≤◌, Bool, true, false, if◌then◌else◌, ◌||◌, List, [], ◌∷◌, ◌++◌, length, drop, Some, None, Option, Ok, Err, Result, nat_lt, IsFalse, refl, sym, ap, ◌∙◌, subst, arith, length-drop, length-append, length-take, take, All}
+use Rattle.std.proofs.Common.{◌≡◌, ℕ, ◌+◌, ◌-◌, ◌<◌, ◌≤◌, Bool, true, false, if◌then◌else◌, ◌||◌, List, [], ◌∷◌, ◌++◌, length, Some, None, Ok, Err, Result, nat_lt, IsFalse, refl, sym, ap, ◌∙◌, subst, arith, length-drop, length-append, length-take, take, All}
 use Rattle.std.proofs.lemmas.Bool.Decides.{nat_tests}
 use Rattle.std.proofs.lemmas.Bool.{ltb-false, leb-false, not-false}
 use Rattle.std.proofs.lemmas.List.{length-map}
 use Rattle.inspection.proofs.Inside.{VfIn, EeIn, after_all, vf_in, ee_in}
 use Rattle.sheet.proofs.FirstFit.{none_parts, no_fit, none_fits}
-use Rattle.sheet.specs.Checks.{Check, first_fit}
+use Rattle.sheet.specs.Checks.{first_fit}
 use Rattle.sheet.specs.declared.notices.Layer.TheVariants.{Offer}
 use Rattle.sheet.specs.declared.drafts.Draft.{Draft}
 use Rattle.sheet.specs.declared.rows.Point.{Point}
@@ -18,17 +18,17 @@ use Rattle.inspection.specs.Classes.{Rules, rules_at, class_of, entries_with, en
 use Rattle.inspection.specs.Faults.{check, notice_of_offer}
 use Rattle.inspection.specs.Lists.{Contents, with_entries}
 use Rattle.inspection.specs.Offerings.{Offering, Faces}
-use Rattle.inspection.specs.Offers.{lacks_rows, lacks_room, pair_checks, offer_checks, room_check, entries_by, tally_by, state_after, OfferStep}
-use Rattle.inspection.specs.Runs.{Accepted, Run, offered as run_offered}
+use Rattle.inspection.specs.Offers.{lacks_rows, lacks_room, pair_checks, offer_checks, room_check, entries_by, tally_by, OfferStep}
+use Rattle.inspection.specs.Runs.{Run, offered as run_offered}
 use Rattle.inspection.specs.Sheets.{Sheet, sheet_in, face_at, moving_of}
 use Rattle.inspection.specs.States.{State, Core, with_counts}
-use Rattle.inspection.specs.Tests.{Naming, corners_below, corners_inside, vf_naming, ee_naming}
+use Rattle.inspection.specs.Tests.{corners_below, corners_inside, vf_naming, ee_naming}
 use Rattle.hosts.specs.Events.{Event, Call}
-use Rattle.hosts.specs.Traces.{Went, nothing}
+use Rattle.hosts.specs.Traces.{nothing}
 use Rattle.hosts.specs.Works.{Worked}
 use Rattle.printout.specs.Printouts.{notice_line}
 use Rattle.printout.specs.Progress.{Made, Tells, TellsInPart, Says, SaysInPart}
-use Rattle.printout.specs.Walks.{Walk, Found, places, pair_bytes, is_full, refusal, found_after, vf_after, ee_after, sorted_in, offered, walked}
+use Rattle.printout.specs.Walks.{Walk, places, pair_bytes, is_full, refusal, found_after, vf_after, ee_after, sorted_in, offered, walked}
 use Rattle.printout.specs.declared.plan_files.PlanFile.{PlanFile}
 use Rattle.printout.proofs.Telling.{tells_none, tells_one, tells_part_of_one}
 
@@ -94,9 +94,9 @@ module _ (set : Shape → Bool) (d : Draft) (ps : List Point) (fs : List Face) (
         ≡ is_full set sheet o w.found
     same_room =
         let vf = room (length s.vf.entries) (length s.vf.rest) (length (entries_by vf_naming set s.core.depth (sheet_in s.core.draft ps fs) o s.vf.entries)) m.vf_places
-            ∙ ap (λ es. nat_lt places (length es)) same_vf in
+        ∙ ap (λ es. nat_lt places (length es)) same_vf in
         let ee = room (length s.ee.entries) (length s.ee.rest) (length (entries_by ee_naming set s.core.depth (sheet_in s.core.draft ps fs) o s.ee.entries)) m.ee_places
-            ∙ ap (λ es. nat_lt places (length es)) same_ee in
+        ∙ ap (λ es. nat_lt places (length es)) same_ee in
         λ i. vf i || ee i
 
     pub same_refusal : first_fit (offer_checks set ps fs o s) ≡ refusal set sheet o w.found
@@ -120,7 +120,7 @@ module _ (set : Shape → Bool) (d : Draft) (ps : List Point) (fs : List Face) (
         let checks = pair_checks w.found.core.draft sheet o w.found.core.accepted in
         let full = check (is_full set sheet o w.found) 21 Offer 0 in
         let fits = neither (nat_lt places (length (vf_after set sheet o w.found))) (nat_lt places (length (ee_after set sheet o w.found)))
-            (no_fit full [] (none_parts checks (full ∷ []) none).1).0 in
+        (no_fit full [] (none_parts checks (full ∷ []) none).1).0 in
         let fresh = tests_inside w.found.core.accepted o m.rows m.tables (ap (λ k. first_fit (pair_checks k sheet o w.found.core.accepted)) (sym m.draft) ∙ (none_parts checks (full ∷ []) none).0) in
         record {
           rows = m.rows;

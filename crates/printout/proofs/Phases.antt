@@ -1,13 +1,9 @@
 -- A run part by part: a file is read, and what follows it.
-use Rattle.std.proofs.Common.{◌≡◌, ℕ, ◌+◌, ◌<◌, ◌≤◌, Bool, true, false, if◌then◌else◌, List, [], ◌∷◌, ◌++◌, All, length, take, drop, replicate, Some, None, Option, Ok, Err, Result, IfOk, refl, sym, ap, ◌∙◌, subst, arith, append-nil, length-take}
-use Rattle.std.proofs.lemmas.List.{length-replicate}
-use Rattle.std.proofs.lemmas.List.Elements.{All-cons, All-nil, All-append, All-tail}
-use Rattle.std.proofs.lemmas.List.Sums.{sum_by-cons}
-use Rattle.hosts.specs.Events.{Event, Read, Call, Reading, Printing, printed, stored, files_read, unread, asked, came, asked_by}
-use Rattle.hosts.specs.Traces.{Went, nothing}
-use Rattle.hosts.specs.Works.{Worked, IsFront, IsPrinted, IsPrintedInPart, Prints}
-use Rattle.hosts.proofs.Fronts.{whole, front_of}
-use Rattle.hosts.proofs.Histories.{went_first, prints_store_nothing, prints_read_nothing, not_asked, not_came}
+use Rattle.std.proofs.Common.{◌≡◌, ℕ, false, if◌then◌else◌, List, [], ◌∷◌, ◌++◌, Some, None, refl, sym, ap, ◌∙◌, append-nil}
+use Rattle.hosts.specs.Events.{Event, Read, Call, Reading, Printing, printed, stored, files_read, unread, came}
+use Rattle.hosts.specs.Works.{IsPrinted, IsPrintedInPart}
+use Rattle.hosts.proofs.Fronts.{front_of}
+use Rattle.hosts.proofs.Histories.{prints_store_nothing, prints_read_nothing}
 use Rattle.sheet.specs.declared.notices.Notice.{Notice}
 use Rattle.printout.specs.Outcomes.{same_file, EndsWith, StopsWith}
 use Rattle.printout.specs.Plans.{Plan, fault, printout, printout_by, sheet, draft}
@@ -17,7 +13,7 @@ use Rattle.printout.specs.Printouts.{notice_line}
 use Rattle.printout.specs.declared.endings.Ending.{Ending}
 use Rattle.printout.specs.declared.endings.Ending.TheVariants.{Complete, Faulty}
 use Rattle.printout.specs.declared.plan_files.PlanFile.{PlanFile}
-use Rattle.printout.specs.declared.plan_files.PlanFile.TheVariants.{Sheet, Step, Pairs}
+use Rattle.printout.specs.declared.plan_files.PlanFile.TheVariants.{Pairs}
 
 -- ---- of a plan
 module _ (p : Plan) (needed_in : ℕ → List PlanFile) where

@@ -1,5 +1,5 @@
 -- What the files of a plan put into the tables.
-use Rattle.std.proofs.Common.{◌≡◌, ℕ, ◌+◌, ◌*◌, ◌<◌, ◌≤◌, Bool, true, false, if◌then◌else◌, List, [], ◌∷◌, ◌++◌, All, length, take, drop, Some, None, Option, nat_lt, refl, sym, ap, ◌∙◌, arith, append-nil}
+use Rattle.std.proofs.Common.{◌≡◌, ℕ, ◌+◌, ◌≤◌, true, false, if◌then◌else◌, List, [], ◌∷◌, ◌++◌, All, length, take, drop, Some, None, nat_lt, sym, ap, ◌∙◌, arith, append-nil}
 use Rattle.std.proofs.Math.Seq.{take-append_seam, take-length}
 use Rattle.std.proofs.lemmas.Bool.{le-ltb}
 use Rattle.std.proofs.lemmas.List.Sums.{sum_by-cons}
@@ -9,7 +9,6 @@ use Rattle.sheet.specs.Checks.{first_fit}
 use Rattle.sheet.specs.Lines.{numbered}
 use Rattle.sheet.specs.Sheet.{text_limit, point_limit, face_limit, sheet_checks, draft_of, points_in, faces_in, onto_front}
 use Rattle.sheet.specs.declared.drafts.Draft.{Draft}
-use Rattle.sheet.specs.declared.notices.Notice.{Notice}
 use Rattle.sheet.specs.declared.rows.Point.{Point}
 use Rattle.sheet.specs.declared.rows.Face.{Face}
 use Rattle.sheet.proofs.Fronts as text_front
@@ -18,10 +17,10 @@ use Rattle.step.specs.Laying.{check, lay_checks, rows_checks, with_ends}
 use Rattle.step.specs.Limit.{record_limit}
 use Rattle.step.proofs.Fronts as record_front
 use Rattle.step.proofs.LayAnswers.{length_with_ends}
-use Rattle.inspection.specs.Sheets.{sheet_of, sheet_in}
+use Rattle.inspection.specs.Sheets.{sheet_of}
 use Rattle.printout.specs.Outcomes.{same_file}
 use Rattle.printout.specs.Phases.{HoldsSheet, HoldsPlan}
-use Rattle.printout.specs.Plans.{Plan, fault, sheet_fault, step_fault, or_else, draft, resting_points, faces, sheet}
+use Rattle.printout.specs.Plans.{Plan, sheet_fault, step_fault, or_else, draft, resting_points}
 use Rattle.printout.specs.declared.plan_files.PlanFile.{PlanFile}
 
 -- a file that is read once has given its first bytes

@@ -1,11 +1,11 @@
 -- What is told of a walk, pair by pair.
-use Rattle.std.proofs.Common.{◌≡◌, ℕ, Bool, List, [], ◌∷◌, ◌++◌, flat_map, fold, Some, None, Option, Ok, Err, Result, MatchResult, refl, sym, ap, ◌∙◌, subst, append_assoc, append-nil}
+use Rattle.std.proofs.Common.{◌≡◌, ℕ, Bool, List, [], ◌∷◌, ◌++◌, Some, None, Option, Ok, Err, Result, MatchResult, refl, sym, ap, ◌∙◌, subst, append_assoc, append-nil}
 use Rattle.std.proofs.lemmas.List.Concat.{flat_map-append}
-use Rattle.hosts.specs.Events.{Event, Stored, Call, Printing, Storing, printed, stored, files_read, unread, printed_by, stored_by, file_read_by}
-use Rattle.hosts.specs.Traces.{Went, nothing, next, CutOff}
-use Rattle.hosts.specs.Works.{Worked, Finished, Stopped, IsFront, IsPrintedInPart, Prints}
+use Rattle.hosts.specs.Events.{Event, Stored, Call, Storing, printed, stored, files_read, unread, printed_by, stored_by, file_read_by}
+use Rattle.hosts.specs.Traces.{next, CutOff}
+use Rattle.hosts.specs.Works.{Worked, Stopped, IsFront, IsPrintedInPart, Prints}
 use Rattle.hosts.proofs.Fronts.{whole, front_of, front_of_front, front_behind}
-use Rattle.hosts.proofs.Histories.{went_on, prints_store_nothing, prints_read_nothing}
+use Rattle.hosts.proofs.Histories.{prints_store_nothing, prints_read_nothing}
 use Rattle.sheet.specs.declared.notices.Notice.{Notice}
 use Rattle.motion.specs.declared.shapes.Shape.{Shape}
 use Rattle.inspection.specs.Offerings.{Offering}
@@ -74,7 +74,8 @@ module _ (set : Shape → Bool) (sheet : Sheet) where
   one_more w o None = (whole (refusal_lines w), whole (refused_pairs w))
   one_more w o (Some n) = (
     front_of (refusal_lines w) (notice_line n ++ []) (refusal_lines (sorted_in set sheet w o (Some n))) (flat_map-append (λ r. notice_line r.why) w.refused (record { pair = o; why = n } ∷ [])),
-    front_of (refused_pairs w) (pair_bytes o ++ []) (refused_pairs (sorted_in set sheet w o (Some n))) (flat_map-append (λ r. pair_bytes r.pair) w.refused (record { pair = o; why = n } ∷ [])))
+    front_of (refused_pairs w) (pair_bytes o ++ []) (refused_pairs (sorted_in set sheet w o (Some n))) (flat_map-append (λ r. pair_bytes r.pair) w.refused (record { pair = o; why = n } ∷ [])),
+  )
 
   pub goes_on : (w : Walk) (os : List Offering)
       → IsFront (refusal_lines w) (refusal_lines (walked set sheet w os)) × IsFront (refused_pairs w) (refused_pairs (walked set sheet w os))

@@ -1,13 +1,11 @@
 -- Pairs offered one after another.
-use Rattle.std.proofs.Common.{◌≡◌, Bool, List, [], ◌∷◌, ◌++◌, fold, Ok, Err, Result, refl, sym, ap, ◌∙◌, subst, append-nil}
+use Rattle.std.proofs.Common.{◌≡◌, Bool, List, [], ◌++◌, Ok, Err, refl, sym, ap, ◌∙◌, subst, append-nil}
 use Rattle.std.proofs.lemmas.List.Sums.{fold-append}
 use Rattle.hosts.specs.Events.{Event, Call}
-use Rattle.hosts.specs.Traces.{Went, nothing}
-use Rattle.hosts.specs.Works.{Worked}
+use Rattle.hosts.specs.Traces.{nothing}
 use Rattle.hosts.proofs.Histories.{went_on}
 use Rattle.sheet.specs.declared.rows.Point.{Point}
 use Rattle.sheet.specs.declared.rows.Face.{Face}
-use Rattle.sheet.specs.declared.drafts.Draft.{Draft}
 use Rattle.motion.specs.declared.shapes.Shape.{Shape}
 use Rattle.inspection.specs.Offerings.{Offering}
 use Rattle.inspection.specs.Sheets.{Sheet}

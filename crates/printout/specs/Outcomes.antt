@@ -1,5 +1,5 @@
 -- What a run over a host comes to, whatever bytes the files have beyond those that came.
-use Rattle.std.specs.Prelude.{◌≡◌, ◌↔◌, ℕ, Bool, true, false, List, [], ◌∷◌, ◌++◌, None, Result}
+use Rattle.std.specs.Prelude.{◌≡◌, ◌↔◌, ℕ, Bool, true, false, List, ◌++◌, None, Result}
 use Rattle.hosts.specs.Events.{Event, Call, Reading, Fits, printed, stored, files_read, came, unread}
 use Rattle.hosts.specs.Works.{Worked, IsFront}
 use Rattle.printout.specs.Plans.{Plan, bytes_of, fault, printout, needed, sheet, draft, ClaimOfPlan}

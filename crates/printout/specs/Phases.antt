@@ -1,12 +1,10 @@
 -- The parts of a run: after the sheet, and after the step.
-use Rattle.std.specs.Prelude.{◌≡◌, ℕ, Bool, IsFalse, false, List, ◌∷◌, ◌++◌, All, length, take, replicate, None, Result}
+use Rattle.std.specs.Prelude.{◌≡◌, ℕ, false, List, ◌∷◌, ◌++◌, All, take, replicate, None, Result}
 use Rattle.hosts.specs.Events.{Event, Call, files_read, unread, asked, came}
 use Rattle.hosts.specs.Works.{Worked}
-use Rattle.sheet.specs.Sheet.{point_limit}
 use Rattle.sheet.specs.declared.drafts.Draft.{Draft}
 use Rattle.sheet.specs.declared.rows.Point.{Point}
 use Rattle.sheet.specs.declared.rows.Face.{Face}
-use Rattle.inspection.specs.Offers.{lacks_rows}
 use Rattle.inspection.specs.Sheets.{sheet_in}
 use Rattle.printout.specs.Outcomes.{same_file, EndsWith, StopsWith}
 use Rattle.printout.specs.Plans.{Plan, draft, faces, resting_points, sheet, fault, sheet_fault, step_fault, files_after}

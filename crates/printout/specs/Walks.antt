@@ -1,7 +1,7 @@
 -- Pairs of faces, offered one after another to an inspection of a sheet.
 use Rattle.std.specs.Prelude.{ℕ, Bool, ◌||◌, List, [], ◌∷◌, ◌++◌, length, nat_lt, flat_map, fold, Some, None, Option}
 use Rattle.std.specs.Int.{w16, to_le_bytes}
-use Rattle.sheet.specs.Checks.{Check, first_fit}
+use Rattle.sheet.specs.Checks.{first_fit}
 use Rattle.sheet.specs.declared.drafts.Draft.{Draft}
 use Rattle.sheet.specs.declared.notices.Layer.TheVariants.{Offer}
 use Rattle.sheet.specs.declared.notices.Notice.{Notice}

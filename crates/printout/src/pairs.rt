@@ -1,17 +1,28 @@
 // Offering the pairs of a plan's file.
-ghost use Rattle.std.specs.Prelude.{◌≡◌, ◌<◌, ◌≤◌, ◌%◌, length};
+ghost use Rattle.std.specs.Prelude.{◌≡◌, ◌<◌, ◌≤◌, ◌%◌, IsFalse, List as Seq, length, IfOk, OnOk};
 ghost use Rattle.sheet.specs.Sheet.{point_limit, face_limit};
+ghost use Rattle.hosts.specs.Works.{Prints};
+ghost use Rattle.motion.specs.Rows.{delivered};
+ghost use Rattle.inspection.specs.Claims.{Findings};
+ghost use Rattle.inspection.specs.Lists.{contents_of, entries, without_entries};
+ghost use Rattle.inspection.specs.Offers.{lacks_rows};
+ghost use Rattle.inspection.specs.Sheets.{sheet_in};
 ghost use Rattle.inspection.specs.States.{state_of};
+ghost use Rattle.inspection.specs.Tests.{vf_naming, ee_naming};
+ghost use Rattle.report.specs.Reports.{view_of, AllInside, report_text};
 ghost use Rattle.printout.specs.Phases.{PairsRan};
-ghost use Rattle.printout.specs.Progress.{OffersFile};
+ghost use Rattle.printout.specs.Progress.{Made, OffersFile};
+ghost use Rattle.printout.specs.Walks.{places, just_opened};
+ghost use Rattle.printout.specs.declared.endings.Ending.TheVariants.{Complete};
 
 use crate::endings::Ending;
 use crate::offering::offer_pairs;
 use crate::plan_files::PlanFile;
 use crate::tables::Tables;
-use filters::{Filter, delivered_filter};
+use filters::{Delivered, Filter, delivered_filter};
 use hosts::Host;
 use inspection::{EeName, Inspection, List, VfName};
+use report::print_report;
 use sheet::{Draft, Face, Point};
 
 /// At which depth the tests are struck.
@@ -62,12 +73,63 @@ pub(crate) fn inspect_pairs<H: Host<File = PlanFile>>(
     let mut ee_places = [EeName::default(); PLACES];
     let mut vf = List::new(&mut vf_places);
     let mut ee = List::new(&mut ee_places);
-    let filter = delivered_filter();
-    let Ok(mut inspection) = Inspection::open(draft, filter, DEPTH, &mut vf, &mut ee) else {
-        unreachable!()
-    };
+    let mut inspection = open_plan(draft, &mut vf, &mut ee);
     let points = &tables.points;
     let faces = &tables.faces;
-    offer_file(&mut inspection, points, faces, &mut vf, &mut ee, &mut tables.pairs, host)?;
+    offer_file(
+        &mut inspection,
+        points,
+        faces,
+        &mut vf,
+        &mut ee,
+        &mut tables.pairs,
+        host,
+    )?;
+    print_found(&inspection, points, faces, &vf, &ee, host)
+}
+
+/// Opens the inspection of a plan: it has made no step of its walk.
+fn open_plan(
+    draft: Draft,
+    vf: &mut List<'_, VfName>,
+    ee: &mut List<'_, EeName>,
+) -> Inspection<Delivered>
+    requires vf { length (without_entries (contents_of vf.old)).rest ≡ places }
+    requires ee { length (without_entries (contents_of ee.old)).rest ≡ places }
+    ensures { (ps : Seq Point) (fs : Seq Face) → IsFalse (lacks_rows draft ps fs)
+        → Made delivered draft ps fs (sheet_in draft ps fs) (just_opened draft)
+        (state_of result vf.new ee.new) }
+{
+    let Ok(inspection) = Inspection::open(draft, delivered_filter(), DEPTH, vf, ee) else {
+        unreachable!()
+    };
+    inspection
+}
+
+/// Prints what an inspection has found.
+fn print_found<F: Filter, H: Host<File = PlanFile>>(
+    inspection: &Inspection<F>,
+    points: &[Point],
+    faces: &[Face],
+    vf: &List<'_, VfName>,
+    ee: &List<'_, EeName>,
+    host: &mut H,
+) -> Result<Ending, H::Error>
+    requires rows { let v = view_of F.Filter.struck inspection.now points.now faces.now in
+        IsFalse v.lacks_rows }
+    requires vf { let v = view_of F.Filter.struck inspection.now points.now faces.now in
+        AllInside vf_naming v (entries vf.now) }
+    requires ee { let v = view_of F.Filter.struck inspection.now points.now faces.now in
+        AllInside ee_naming v (entries ee.now) }
+    ensures printed { let v = view_of F.Filter.struck inspection.now points.now faces.now in
+        let text = report_text v (entries vf.now) (entries ee.now) in
+        Prints H.does H.fails text host.old result host.new }
+    ensures ending { IfOk result (λ ending. ending ≡ Complete) }
+    ensures claim { let v = view_of F.Filter.struck inspection.now points.now faces.now in
+        OnOk result (Findings v.set (state_of inspection.now vf.now ee.now)) }
+{
+    let Ok(()) = print_report(inspection, points, faces, vf, ee, host)? else {
+        unreachable!()
+    };
     Ok(Ending::Complete)
 }

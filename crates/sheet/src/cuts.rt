@@ -2,7 +2,8 @@
 ghost use Rattle.std.specs.Prelude.{◌≡◌, ◌==◌};
 ghost use Rattle.std.specs.List.{before_first, after_first};
 
-/// What stands before the first `at` of `text`, and what after it; the whole and nothing, if there is none.
+/// What stands before the first `at` of `text`, and what after it; the whole and nothing, if there
+/// is none.
 pub(crate) fn cut(text: &[u8], at: u8) -> (&[u8], &[u8])
     ensures front { result.0.now ≡ before_first (λ b. b == at) text.now }
     ensures back { result.1.now ≡ after_first (λ b. b == at) text.now }

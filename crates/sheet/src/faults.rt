@@ -6,7 +6,8 @@ ghost use Rattle.sheet.specs.declared.faults.SheetFault.TheVariants.{Line};
 
 use crate::notices::{Layer, Notice};
 
-/// A place in a text: the line, counted from 1, and its field, 1 to 3, or 0 for the line as a whole.
+/// A place in a text: the line, counted from 1, and its field, 1 to 3, or 0 for the line as a
+/// whole.
 #[derive(Clone, Copy, Debug, PartialEq, Eq)]
 pub struct Spot {
     pub line: u32,

@@ -9,7 +9,8 @@ ghost use Rattle.sheet.specs.Sheet.{magnitude_checks, numeral_checks};
 use crate::cuts::cut;
 use crate::faults::{FieldFault, Spot};
 
-/// The three fields of a line, as parts of it: a missing one is empty, and the third goes on to the end.
+/// The three fields of a line, as parts of it: a missing one is empty, and the third goes on to the
+/// end.
 #[derive(Clone, Copy)]
 pub(crate) struct Fields<'a> {
     pub(crate) first: &'a [u8],

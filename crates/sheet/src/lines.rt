@@ -94,7 +94,8 @@ fn read_face(text: &[u8], line: u32, points: u16) -> Result<Face, LineFault>
     Ok(Face { a, b, c })
 }
 
-/// The number, from 0, of the point that a field names by its number from 1, other than the `earlier` ones.
+/// The number, from 0, of the point that a field names by its number from 1, other than the
+/// `earlier` ones.
 fn corner(field: &[u8], at: Spot, points: u16, earlier: &[u16]) -> Result<u16, LineFault>
     ensures fault { fault_notice notice_of_line result
         ≡ first_fit (corner_checks points at earlier.now field.now) }

@@ -7,11 +7,12 @@ use arrayvec::ArrayString;
 use itoa::Buffer;
 use std::fmt;
 
-/// The longest line of a fault: a number of three digits, a name of seven letters and two places of ten digits.
+/// The longest line of a fault: a number of three digits, a name of seven letters and two places of
+/// ten digits.
 pub type FaultLine = ArrayString<39>;
 
-/// What refused: the reader of a field, of a line, of a sheet or of a step, the writer of a step, a call of an inspection (its
-/// opening, an offer, a window), or the report.
+/// What refused: the reader of a field, of a line, of a sheet or of a step, the writer of a step, a
+/// call of an inspection (its opening, an offer, a window), or the report.
 #[derive(Clone, Copy, Debug, PartialEq, Eq)]
 pub enum Layer {
     Field,

@@ -1,4 +1,5 @@
-// Reads a sheet in two passes: the first finds the first fault, or that there is none; the second writes the rows.
+// Reads a sheet in two passes: the first finds the first fault, or that there is none; the second
+// writes the rows.
 ghost use Rattle.std.specs.Prelude.{◌≡◌, ◌≤◌, length, is_ok, take, IfOk, IsTrue, if◌then◌else◌, None};
 ghost use Rattle.sheet.specs.Checks.{first_fit, fault_notice};
 ghost use Rattle.sheet.specs.Faults.{notice_of_sheet};
@@ -18,7 +19,8 @@ use crate::splitting::{Line, lines_in};
 /// A text has at most 65,536 bytes.
 pub const TEXT_LIMIT: usize = 65536;
 
-/// Reads a sheet into the first rows of the caller's tables; the other rows are as they were. On a fault all are.
+/// Reads a sheet into the first rows of the caller's tables; the other rows are as they were. On a
+/// fault all are.
 ///
 /// What is accepted is a sheet (`meaning`).
 pub fn read_sheet(

@@ -3,7 +3,7 @@ use Rattle.std.proofs.Common.{◌≡◌, ℕ, zero, suc, ◌*◌, ◌≤◌, Boo
 use Rattle.std.proofs.lemmas.List.{length-append}
 use Rattle.sheet.specs.declared.rows.Coords.{Coords}
 use Rattle.sheet.specs.declared.rows.Point.{Point}
-use Rattle.step.specs.Limit.{mover, Longest}
+use Rattle.step.specs.Limit.{mover}
 use Rattle.step.specs.Record.{is_zero, field_of, moves_record, moves_of, point_record, record_of}
 
 two_at_most : (b : Bool) (l h : ℕ) → length (cond b [] (l ∷ (h ∷ []))) ≤ 2
@@ -20,13 +20,10 @@ moves_most m =
     let z = field_most m.z in
     omega (arith, length-append (field_of m.x) (field_of m.y ++ field_of m.z), length-append (field_of m.y) (field_of m.z))
 
-rows_most : (ps : List Point) → length (record_of ps) ≤ 7 * length ps
+pub rows_most : (ps : List Point) → length (record_of ps) ≤ 7 * length ps
 rows_most [] = omega arith
 rows_most (p ∷ ps) = let a = rows_most ps in let b = moves_most (moves_of p) in omega (arith, length-append (point_record p) (record_of ps))
 
-all_move : (m : ℕ) → length (record_of (replicate m mover)) ≡ 7 * m
+pub all_move : (m : ℕ) → length (record_of (replicate m mover)) ≡ 7 * m
 all_move zero = refl
 all_move (suc m) = let a = all_move m in omega (arith, length-append (point_record mover) (record_of (replicate m mover)))
-
-pub longest : (m : ℕ) → Longest m (7 * m)
-longest m = (λ ps h. omega (arith, rows_most ps), all_move m)

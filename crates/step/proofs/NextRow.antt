@@ -21,7 +21,12 @@ checks_more ps i d bs r h good rest = rw (rest, checks_first ps i d bs h, ← go
 pub checks_stop : (ps : List Point) (i : ℕ) (d : Point) (bs : List ℕ) (n : Notice) → i < length ps → Some n ≡ first_fit (row_checks i (get_or ps i d) bs) → Some n ≡ first_fit (rows_checks i (drop i ps) bs)
 checks_stop ps i d bs n h bad = rw (checks_first ps i d bs h, ← bad) refl
 
--- row i gets its end
-pub ends_more : (ps : List Point) (i : ℕ) (d q : Point) (bs r : List ℕ) (ends : List Point) → i < length ps → q ≡ with_end (get_or ps i d) bs → r ≡ after_row bs → take i ps ++ with_ends (drop i ps) bs ≡ ends → take (i + 1) (set ps i q) ++ with_ends (drop (i + 1) (set ps i q)) r ≡ ends
-ends_more ps i d q bs r ends h row rest before =
-    rw (take_more_set ps i q h, append_assoc, drop-set-lt (i + 1) ps i q (omega arith), row, rest, ← before, at_drop_more (λ t. with_ends t bs) ps i d h) refl
+-- ---- row i gets its end
+-- whatever it becomes, the rows behind it are as they were
+pub checks_more_set : (ps : List Point) (i : ℕ) (q : Point) (bs : List ℕ) (d : Point) → i < length ps → None ≡ first_fit (row_checks i (get_or ps i d) bs) → first_fit (rows_checks i (drop i ps) bs) ≡ first_fit (rows_checks (i + 1) (drop (i + 1) (set ps i q)) (after_row bs))
+checks_more_set ps i q bs d h good = rw (drop-set-lt (i + 1) ps i q (omega arith), checks_first ps i d bs h, ← good) refl
+
+pub ends_more : (ps : List Point) (i : ℕ) (bs : List ℕ) (d : Point) → i < length ps → take i ps ++ with_ends (drop i ps) bs ≡ take (i + 1) (set ps i (with_end (get_or ps i d) bs)) ++ with_ends (drop (i + 1) (set ps i (with_end (get_or ps i d) bs))) (after_row bs)
+ends_more ps i bs d h =
+    let q : Point = with_end (get_or ps i d) bs in
+    rw (take_more_set ps i q h, append_assoc, drop-set-lt (i + 1) ps i q (omega arith), at_drop_more (λ t. with_ends t bs) ps i d h) refl

@@ -1,5 +1,5 @@
 -- One row: what is written of it reads back, and what is read is what is written.
-use Rattle.std.proofs.Common.{◌≡◌, ℕ, zero, suc, ◌+◌, ◌*◌, ◌/◌, ◌%◌, ◌<◌, Bool, true, false, cond, not, eqb, ltb, List, [], ◌∷◌, ◌++◌, length, drop, ℤ, ◌-ℤ◌, None, sym, refl, ap, ◌∙◌, subst, inl, inr, one-mul, zero-mul, arith}
+use Rattle.std.proofs.Common.{◌≡◌, ℕ, ◌+◌, ◌*◌, ◌/◌, ◌%◌, ◌<◌, Bool, true, false, cond, not, eqb, ltb, List, [], ◌∷◌, ◌++◌, length, drop, ℤ, ◌-ℤ◌, None, sym, refl, ap, ◌∙◌, subst, inl, inr, one-mul, zero-mul, arith}
 use Rattle.std.proofs.Math.Bool.{not-not}
 use Rattle.std.proofs.lemmas.List.{append_assoc, get_or-drop}
 use Rattle.std.proofs.lemmas.Bool.{cond-true, cond-false, eq-eqb, ne_eqb, eqb-false, cases_eq, ltb-false, and_from, and_parts}
@@ -14,7 +14,7 @@ use Rattle.step.specs.Record.{is_zero, field_of, map_byte, moves_record}
 use Rattle.step.specs.declared.faults.At.{At}
 use Rattle.step.proofs.CountedLaws.{counted_within}
 use Rattle.step.proofs.FirstField.{fields_first}
-use Rattle.step.proofs.FieldLaws.{fit_none, Bytes, ReadBack, field_back, field_only}
+use Rattle.step.proofs.FieldLaws.{Bytes, ReadBack, field_back, field_only}
 
 -- where each field stands in the record of a row, and its checks
 

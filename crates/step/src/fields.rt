@@ -8,7 +8,8 @@ ghost use Rattle.step.specs.Laying.{bit_stands, field_checks, end_in, after_fiel
 use crate::faults::{At, StepFault};
 use sheet::COORDINATE_BOUND;
 
-/// The end of a coordinate that starts at `start`, and the rest of the record. It moves if the map has its bit.
+/// The end of a coordinate that starts at `start`, and the rest of the record. It moves if the map
+/// has its bit.
 pub(crate) fn read_field(
     bytes: &[u8],
     map: u8,
@@ -42,23 +43,11 @@ pub(crate) fn read_field(
 fn moved(start: i16, by: i16) -> Option<i16>
     ensures { result ≡ (if in_range (start +ℤ by) then Some (start +ℤ by) else None) }
 {
-    coordinate(sum(start, by))
-}
-
-fn sum(start: i16, by: i16) -> i32
-    ensures { result ≡ start +ℤ by }
-{
-    i32::from(start) + i32::from(by)
-}
-
-/// A number that is in range, as a coordinate.
-fn coordinate(value: i32) -> Option<i16>
-    ensures { result ≡ (if in_range value then Some value else None) }
-{
-    if !in_range(value) {
+    let end = i32::from(start) + i32::from(by);
+    if !in_range(end) {
         return None;
     }
-    Some(value as i16)
+    Some(end as i16)
 }
 
 fn in_range(value: i32) -> bool

@@ -1,4 +1,5 @@
-// Lays a record onto a table by two passes: the first only looks for a fault, the second writes the ends.
+// Lays a record onto a table by two passes: the first only looks for a fault, the second writes the
+// ends.
 ghost use Rattle.std.specs.Prelude.{◌≡◌, ◌≤◌, List, length, take, is_ok, if◌then◌else◌, OnOk, IsOk, None};
 ghost use Rattle.sheet.specs.Checks.{first_fit, fault_notice};
 ghost use Rattle.sheet.specs.Sheet.{onto_front};
@@ -11,9 +12,11 @@ use crate::faults::StepFault;
 use crate::rows::read_row;
 use sheet::{Draft, Point};
 
-/// Lays a record onto the draft's points: each end is the start, as it counts, and the move. Starts keep what they hold.
+/// Lays a record onto the draft's points: each end is the start, as it counts, and the move. Starts
+/// keep what they hold.
 ///
-/// Accepted is just what is the record of these rows with some ends in range (`only`), and then the rows have these ends (`back`).
+/// Accepted is just what is the record of these rows with some ends in range (`only`), and then the
+/// rows have these ends (`back`).
 pub fn lay(draft: &Draft, bytes: &[u8], points: &mut [Point]) -> Result<(), StepFault>
     ensures fault { fault_notice notice_of_step result
         ≡ first_fit (lay_checks draft.now.points points.old bytes.now) }
@@ -61,6 +64,7 @@ fn survey(bytes: &[u8], rows: &[Point]) -> Result<(), StepFault>
 }
 
 /// Writes the rows with the ends that their record gives, of which the survey has found no fault.
+#[tactic(auto, using(crate::proofs::NextRow::checks_more_set, crate::proofs::NextRow::ends_more))]
 fn fill(bytes: &[u8], rows: &mut [Point])
     requires few { length rows.old ≤ 65535 }
     requires good { first_fit (rows_checks 0 rows.old bytes.now) ≡ None }

@@ -9,7 +9,8 @@ use crate::faults::{At, StepFault};
 use crate::fields::read_field;
 use sheet::{Coords, Point};
 
-/// The row with the end that the front of a record gives, and the rest of the record. It is the row of point `number`.
+/// The row with the end that the front of a record gives, and the rest of the record. It is the row
+/// of point `number`.
 pub(crate) fn read_row(bytes: &[u8], row: Point, number: u32) -> Result<(Point, &[u8]), StepFault>
     ensures fault { fault_notice notice_of_step result
         ≡ first_fit (row_checks number row bytes.now) }

@@ -15,21 +15,16 @@ use arrayvec::ArrayVec;
 use sheet::{Coords, Draft, POINT_LIMIT, Point, coordinate_of};
 
 /// The length of the longest record of a sheet.
+#[tactic(auto, using(crate::proofs::LongestRecord::rows_most, crate::proofs::LongestRecord::all_move))]
 pub fn record_limit() -> usize
     ensures value { result ≡ record_limit }
     ensures longest { Longest point_limit result }
 {
-    full_record()
-}
-
-/// A map and three fields for each point that a sheet has place for.
-fn full_record() -> usize
-    ensures { result ≡ record_limit }
-{
     7 * POINT_LIMIT as usize
 }
 
-/// Writes the record of the draft's points into the front of `out`, and answers its length; the other bytes are as they were.
+/// Writes the record of the draft's points into the front of `out`, and answers its length; the
+/// other bytes are as they were.
 ///
 /// What is written is a record of these rows, by which their ends come back as they count (`back`).
 pub fn write(draft: &Draft, points: &[Point], out: &mut [u8]) -> Result<usize, WriterFault>

@@ -1,14 +1,16 @@
 // Offering two faces.
-ghost use Rattle.std.specs.Prelude.{◌≡◌, ◌<◌, ◌||◌, nat_lt, length, IfOk, OnOk};
+ghost use Rattle.std.specs.Prelude.{◌≡◌, ◌<◌, is_ok, if◌then◌else◌, IfOk, OnOk};
 ghost use Rattle.sheet.specs.Checks.{first_fit, fault_notice};
 ghost use Rattle.inspection.specs.Faults.{notice_of_offer};
 ghost use Rattle.inspection.specs.Tallies.{total};
 ghost use Rattle.inspection.specs.Sheets.{sheet_in};
-ghost use Rattle.inspection.specs.Lists.{contents_of, entries};
+ghost use Rattle.inspection.specs.Lists.{entries};
 ghost use Rattle.inspection.specs.Tests.{vf_naming, ee_naming};
 ghost use Rattle.inspection.specs.States.{core_of, state_of, with_counts};
 ghost use Rattle.inspection.specs.Offerings.{Faces};
 ghost use Rattle.inspection.specs.Offers.{checks_but_room, Outcome, OfferStep};
+ghost use Rattle.inspection.specs.PairOutcomes.{lacks_room_for, with_outcome};
+ghost use Rattle.inspection.specs.declared.faults.OfferFault.TheVariants.{ListFull};
 
 use super::Inspection;
 use crate::classes::Tally;
@@ -32,17 +34,6 @@ struct PairOutcome {
     ee_tally: Tally,
 }
 
-impl PairOutcome {
-    /// Whether a list has fewer free places than new entries.
-    fn lacks_room(&self, vf: &List<'_, VfName>, ee: &List<'_, EeName>) -> bool
-        ensures { result
-            ≡ (nat_lt (length (contents_of vf.now).rest) (length self.now.vf.items)
-            || nat_lt (length (contents_of ee.now).rest) (length self.now.ee.items)) }
-    {
-        vf.free() < self.vf.len() || ee.free() < self.ee.len()
-    }
-}
-
 impl<F: Filter> Inspection<F> {
     /// Offers two faces, by their numbers from 0: each of their fifteen tests is classed and
     /// counted, and the kept ones are listed. A fault leaves all as it was. `points` and `faces`
@@ -62,13 +53,7 @@ impl<F: Filter> Inspection<F> {
         ensures filter { self.new.filter ≡ self.old.filter }
     {
         let new = self.class_pair(points, faces, vf, ee, first, second)?;
-        if new.lacks_room(vf, ee) {
-            return Err(OfferFault::ListFull);
-        }
-        vf.extend(new.vf.as_slice());
-        ee.extend(new.ee.as_slice());
-        self.count(new.vf_tally, new.ee_tally);
-        Ok(())
+        self.accept(&new, vf, ee)
     }
 
     /// Makes the checks of an offer, but for the room on the lists, and classes the pair's tests.
@@ -108,6 +93,33 @@ impl<F: Filter> Inspection<F> {
             ee,
             ee_tally,
         })
+    }
+
+    /// Lists and counts what a pair's tests come to. Where a list has fewer free places than new
+    /// entries, all is left as it was.
+    fn accept(
+        &mut self,
+        new: &PairOutcome,
+        vf: &mut List<'_, VfName>,
+        ee: &mut List<'_, EeName>,
+    ) -> Result<(), OfferFault>
+        requires few { self.old.accepted < 1000000 }
+        requires vf { total new.now.vf_tally ≡ 6 }
+        requires ee { total new.now.ee_tally ≡ 9 }
+        ensures room { let full = lacks_room_for new.now (state_of self.old vf.old ee.old) in
+            result ≡ (if full then Err ListFull else Ok tt) }
+        ensures state { let old = state_of self.old vf.old ee.old in
+            state_of self.new vf.new ee.new
+            ≡ (if is_ok result then with_outcome new.now old else old) }
+        ensures filter { self.new.filter ≡ self.old.filter }
+    {
+        if vf.free() < new.vf.len() || ee.free() < new.ee.len() {
+            return Err(OfferFault::ListFull);
+        }
+        vf.extend(new.vf.as_slice());
+        ee.extend(new.ee.as_slice());
+        self.count(new.vf_tally, new.ee_tally);
+        Ok(())
     }
 
     /// Counts the tests of an accepted offer.

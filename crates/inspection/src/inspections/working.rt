@@ -59,6 +59,7 @@ pub struct Worked<F> {
 /// answers. A refusal hands back the draft and the filter, and leaves the lists and the answers.
 ///
 /// Of what came of them nobody can name a touch that is missed: that is the clause `claim`.
+#[tactic(auto, using(crate::proofs::Working::worked_on, crate::proofs::Working::rest_more))]
 pub fn inspect<F: Filter>(
     draft: Draft,
     filter: F,

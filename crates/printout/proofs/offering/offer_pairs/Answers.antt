@@ -2,7 +2,7 @@ use Rattle.std.proofs.Common.{◌≡◌, [], ◌∷◌, ◌++◌, flat_map, Ok, 
 use Rattle.std.proofs.lemmas.List.Concat.{flat_map-append}
 use Rattle.std.proofs.lemmas.Result.{err_from_is_err_and}
 use Rattle.inspection.specs.Offerings.{Faces}
-use Rattle.inspection.specs.PairBytes.{offers_in, offers_left}
+use Rattle.inspection.specs.PairBytes.{offers_left}
 use Rattle.inspection.specs.States.{State, state_of}
 use Rattle.printout.specs.Progress.{Offers}
 use Rattle.printout.specs.Walks.{pairs_in}

@@ -1,4 +1,3 @@
-use Rattle.std.proofs.Common.{rules}
 use Rattle.std.proofs.lemmas.Result.{err_from_is_err_and}
 use Rattle.inspection.specs.Offerings.{Faces}
 use Rattle.printout.specs.Printouts.{notice_line}

@@ -2,7 +2,7 @@ use Rattle.std.proofs.Common.{◌≡◌, ◌+◌, length, take, Some, ap, ◌∙
 use Rattle.std.proofs.lemmas.Result.{err_from_is_err_and}
 use Rattle.sheet.specs.Checks.{first_fit}
 use Rattle.sheet.specs.Lines.{numbered}
-use Rattle.sheet.specs.Sheet.{text_limit, point_limit, face_limit, sheet_checks, points_in, faces_in, onto_front}
+use Rattle.sheet.specs.Sheet.{text_limit, point_limit, face_limit, sheet_checks, faces_in, onto_front}
 use Rattle.printout.specs.Phases.{StepRan}
 use Rattle.printout.proofs.FileByFile.{sheet_unread, sheet_faulty, sheet_accepted}
 use Rattle.printout.proofs.plans.inspect_plan.Goals as goal

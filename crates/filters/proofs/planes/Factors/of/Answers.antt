@@ -1,23 +1,34 @@
 use Rattle.std.proofs.Common.{◌≡◌}
 use Rattle.motion.specs.Plane.{velocity_normal, 2n̂}
-use Rattle.filters.proofs.Reaches.{reached, same-reach, plus-reach, minus-reach, a0, a1, b0, b1, c0, c1}
-use Rattle.filters.proofs.Volumes.{d0-reach, d1-reach, n0-reach, n1-reach, velocity-normal-reach}
+use Rattle.filters.proofs.Reaches.{reached, same-reach, plus-reach, minus-reach, p0, p1, a0, a1, b0, b1, c0, c1}
+use Rattle.filters.proofs.Volumes.{n0-reach, n1-reach, velocity-normal-reach}
 use Rattle.filters.proofs.planes.Factors.of.Goals as goal
 
-pub normal-of_moves-requires : goal.normal-of_moves-requires
-normal-of_moves-requires c =
-    let t = c.args.test.now.shape in
-    let v = c.args.test.now.valid in
-    (reached c.minus.ensures (minus-reach (a1 t v) (a0 t v)) tt, reached c.minus-2.ensures (minus-reach (b1 t v) (b0 t v)) tt, reached c.minus-3.ensures (minus-reach (c1 t v) (c0 t v)) tt)
+-- ---- each point is within the bounds of a test
+pub way-requires : goal.way-requires
+way-requires c = let t = c.args.test.now in search (a0 t.shape t.valid, a1 t.shape t.valid)
 
+pub way-requires-2 : goal.way-requires-2
+way-requires-2 c = let t = c.args.test.now in search (b0 t.shape t.valid, b1 t.shape t.valid)
+
+pub way-requires-3 : goal.way-requires-3
+way-requires-3 c = let t = c.args.test.now in search (c0 t.shape t.valid, c1 t.shape t.valid)
+
+pub way-requires-4 : goal.way-requires-4
+way-requires-4 c = let t = c.args.test.now in search (a0 t.shape t.valid, p0 t.shape t.valid)
+
+pub way-requires-5 : goal.way-requires-5
+way-requires-5 c = let t = c.args.test.now in search (a1 t.shape t.valid, p1 t.shape t.valid)
+
+-- ---- the normals
 pub plus-requires : goal.plus-requires
 plus-requires c =
     let t = c.args.test.now.shape in
     let v = c.args.test.now.valid in
     (reached c.normal-n0.ensures (n0-reach t v) tt, reached c.normal-n1.ensures (n1-reach t v) tt)
 
-pub minus-requires-6 : goal.minus-requires-6
-minus-requires-6 c =
+pub minus-requires : goal.minus-requires
+minus-requires c =
     let t = c.args.test.now.shape in
     let v = c.args.test.now.valid in
     let n : c.normal-of_moves.result ≡ velocity_normal t = cc in
@@ -27,9 +38,9 @@ pub invariant_of-result : goal.invariant_of-result
 invariant_of-result c =
     let t = c.args.test.now.shape in
     let v = c.args.test.now.valid in
-    let n : c.minus-6.result ≡ 2n̂ t = cc in
+    let n : c.minus.result ≡ 2n̂ t = cc in
     record {
-      start = (same-reach c.minus-4.ensures (d0-reach t v), same-reach c.normal-n0.ensures (n0-reach t v));
-      end = (same-reach c.minus-5.ensures (d1-reach t v), same-reach c.normal-n1.ensures (n1-reach t v));
+      start = (c.way-4.ensures.reach, same-reach c.normal-n0.ensures (n0-reach t v));
+      end = (c.way-5.ensures.reach, same-reach c.normal-n1.ensures (n1-reach t v));
       middle = same-reach n (minus-reach (plus-reach (n0-reach t v) (n1-reach t v)) (velocity-normal-reach t v));
     }

@@ -1,31 +1,12 @@
-use Rattle.std.proofs.Common.{◌≡◌, ℕ, ◌<◌, ◌≤◌, length, take, ap, ◌∙◌, subst, arith}
+use Rattle.std.proofs.Common.{◌≡◌, ℕ, ◌≤◌, take, ap, subst, arith}
 use Rattle.inspection.specs.Lists.{contents_of}
 use Rattle.inspection.specs.Sheets.{sheet_in}
 use Rattle.inspection.specs.Runs.{Run}
-use Rattle.inspection.specs.States.{Core, State, state_of, state_at_start}
+use Rattle.inspection.specs.States.{Core, State, state_of}
 use Rattle.inspection.specs.Requests.{history}
-use Rattle.inspection.specs.declared.requests.Request.TheVariants.{SetDepth}
 use Rattle.inspection.proofs.Claiming.{claim}
-use Rattle.inspection.proofs.Working.{worked-on, rest-more, runs-on}
+use Rattle.inspection.proofs.Working.{runs-on}
 use Rattle.inspection.proofs.inspections.working.inspect.Goals as goal
-
-pub loop-i-preserved : goal.loop-i-preserved
-loop-i-preserved g c =
-    let a = c.args in
-    let l = c.loop-i in
-    let i = l.invariant in
-    let e = c.answer.ensures in
-    let here : l.i < length a.requests.now = omega arith in
-    let there : l.i < length l.answers = omega arith in
-    let u : State = state_of c.answer.new.self c.answer.new.vf c.answer.new.ee in
-    record {
-      steps = worked-on (g.F.Filter.struck a.filter) a.points.now a.faces.now a.requests.now l.answers l.i (SetDepth 0) c.answer.result (state_at_start a.draft a.depth (contents_of a.vf.now) (contents_of a.ee.now)) (state_of l.inspection l.vf l.ee) u here there i.steps
-          (rw (← i.filter) e.step);
-      filter = e.filter ∙ i.filter;
-      vf_lender = e.vf_lender ∙ i.vf_lender;
-      ee_lender = e.ee_lender ∙ i.ee_lender;
-      rest = rest-more l.answers a.answers.now l.i c.answer.result i.rest;
-    }
 
 pub returns-clause-run : goal.returns-clause-run
 returns-clause-run g c =
