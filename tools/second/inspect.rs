@@ -40,41 +40,65 @@ fn read(folder: &Path, name: &str, most: u64) -> Result<Vec<u8>, Stop> {
     Ok(bytes)
 }
 
-/// Offers the pairs in turn. Answers the fault lines of the refused.
-fn offer_pairs(inspection: &mut Inspection, pairs: &[u8]) -> String {
+/// What is known after all pairs.
+struct Findings {
+    /// The fault lines of the refused pairs.
+    refusals: String,
+    /// The refused pairs, as they stand in the file of pairs.
+    refused: Vec<u8>,
+    report: String,
+}
+
+/// Offers the pairs in turn. Answers the fault lines of the refused, and these pairs again.
+fn offer_pairs(inspection: &mut Inspection, pairs: &[u8]) -> (String, Vec<u8>) {
     let mut lines = String::new();
+    let mut refused = Vec::new();
     // a rest of under four bytes is no chunk
     for pair in pairs.chunks_exact(4) {
         let first = u16::from_le_bytes([pair[0], pair[1]]);
         let second = u16::from_le_bytes([pair[2], pair[3]]);
         if let Err(fault) = inspection.offer(first.into(), second.into()) {
             lines += &format!("{fault}\n");
+            refused.extend_from_slice(pair);
         }
     }
-    lines
+    (lines, refused)
 }
 
-/// Answers the fault lines of the refused pairs, and the report. Each file is read and used before the next one.
-fn inspect(folder: &Path) -> Result<(String, String), Stop> {
+/// Each file is read and used before the next one.
+fn inspect(folder: &Path) -> Result<Findings, Stop> {
     let sheet = sheet::read(&read(folder, "sheet.obj", MOST_OF_SHEET)?)?;
     let points = record::lay(&read(folder, "step.bin", MOST_OF_STEP)?, &sheet.points)?;
     let mut inspection = Inspection::open(points, sheet.faces, DEPTH)?;
     let pairs = read(folder, "pairs.bin", u64::MAX)?;
-    let refusals = offer_pairs(&mut inspection, &pairs);
-    Ok((refusals, inspection.report()))
+    let (refusals, refused) = offer_pairs(&mut inspection, &pairs);
+    let report = inspection.report();
+    Ok(Findings {
+        refusals,
+        refused,
+        report,
+    })
 }
 
 fn main() {
-    let arguments: Vec<_> = std::env::args_os().skip(1).collect();
+    let mut arguments: Vec<_> = std::env::args_os().skip(1).collect();
+    let mut target = None;
+    if arguments.len() > 1 && arguments[0] == "--refused" {
+        target = Some(PathBuf::from(arguments.remove(1)));
+        arguments.remove(0);
+    }
     if arguments.len() > 1 {
-        eprintln!("usage: inspect-second [FOLDER]");
+        eprintln!("usage: inspect-second [--refused FILE] [FOLDER]");
         exit(1);
     }
     let folder = arguments.first().map_or(PathBuf::from("."), PathBuf::from);
     match inspect(&folder) {
-        Ok((refusals, report)) => {
+        Ok(findings) => {
             // a refused pair is passed over: the status is 0
-            print!("{refusals}{report}");
+            print!("{}{}", findings.refusals, findings.report);
+            if let Some(path) = target {
+                std::fs::write(path, findings.refused).expect("the refused pairs can be stored");
+            }
             exit(0);
         }
         Err(Stop::Fault(fault)) => println!("{fault}"),
@@ -108,7 +132,10 @@ mod worked_cases {
         let outcome = inspect(&folder);
         std::fs::remove_dir_all(&folder).unwrap();
         match outcome {
-            Ok((refusals, report)) => (format!("{refusals}{report}"), refusals.is_empty()),
+            Ok(found) => {
+                let printed = format!("{}{}", found.refusals, found.report);
+                (printed, found.refused.is_empty())
+            }
             Err(Stop::Fault(fault)) => (format!("{fault}\n"), false),
             Err(Stop::Unreadable(_)) => (String::new(), false),
         }

@@ -1,0 +1,3 @@
+pub mod Pieces
+pub mod Done
+pub mod Calls

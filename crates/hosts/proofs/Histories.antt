@@ -7,15 +7,15 @@ use Rattle.hosts.specs.Events.{Event, Read, Printed, Stored, stored, files_read,
 use Rattle.hosts.specs.Traces.{Went, nothing, next}
 use Rattle.hosts.specs.Works.{IsPrint}
 
-module _ {S F : Type 0} (does : S → Event F → S → Type 0) where
-  pub went_first : {s t u : S} {es : List (Event F)} (e : Event F) → does s e t → Went does t es u → Went does s (e ∷ es) u
+module _ {S V : Type 0} (does : S → V → S → Type 0) where
+  pub went_first : {s t u : S} {es : List V} (e : V) → does s e t → Went does t es u → Went does s (e ∷ es) u
   went_first e d nothing = next e nothing d
   went_first e d (next e' w d') = next e' (went_first e d w) d'
 
-  pub went_on : (s t u : S) (first es : List (Event F)) → Went does s first t → Went does t es u → Went does s (first ++ es) u
+  pub went_on : (s t u : S) (first es : List V) → Went does s first t → Went does t es u → Went does s (first ++ es) u
   went_on s t u first es w v = on s u es v
     where
-      on : (s' u : S) (es : List (Event F)) → Went does t es u → Went does s (first ++ es) u
+      on : (s' u : S) (es : List V) → Went does t es u → Went does s (first ++ es) u
       on s' u es nothing = subst (λ l. Went does s l t) (sym (append-nil first)) w
       on s' u es (next {es = es'} e v d) = subst (λ l. Went does s l u) (append_assoc first es' (e ∷ [])) (next e (on s' _ es' v) d)
 

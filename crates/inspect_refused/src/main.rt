@@ -1,9 +1,9 @@
 // The gate's run of an inspection with refused pairs among good ones.
 #![tactic(auto)]
 
-use plans::inspect_folder;
-use std::path::Path;
+use plans::inspect_command;
+use std::process::ExitCode;
 
-fn main(rt: HostRuntime) -> anyhow::Result<()> {
-    inspect_folder(&rt, Path::new("."))
+fn main(rt: HostRuntime) -> ExitCode {
+    ExitCode::from(inspect_command(&rt))
 }

@@ -1,59 +1,56 @@
 // record START.obj END.obj STEP.bin: makes the record of the step between two frames of one sheet.
 #![tactic(auto)]
 
-use anyhow::anyhow;
-use files::load;
-use frames::{Frame, deciding_len, read_frame, recording_of};
-use std::path::Path;
+use commands::{About, given};
+use recordings::{Paths, record_frames};
 use std::process::ExitCode;
-use std::{env, fs};
 
-/// What stops the run is told where it is found, so that only the status is left to say.
+const HELP: &str = "\
+usage: record START.obj END.obj STEP.bin
+
+Makes the record of the step between two frames of one sheet, START.obj and END.obj, and stores it in STEP.bin, for the
+program `inspect`. The frames have the same faces; each point ends where the second frame has it. A frame is a text:
+a line `v X Y Z` for each point, `f A B C` for each face; points count from 1 there.
+
+It prints
+  step N points, N moved, N bytes      the record is stored
+  fault NUMBER LAYER PLACE PLACE       a frame has a fault; which one is told on standard error
+  the frames have N and N points       the frames are not of one sheet; so too for their faces
+  the frames differ in face N          the first face that is another one, counted from 0
+and in the last three cases stores nothing. docs/RULES.md explains the faults by their numbers.
+
+A frame has at most 2,048 points, 4,096 faces and 65,536 bytes of text, with coordinates from -4096 to 4096.
+
+  -h, --help   prints this
+  --version    prints the number of the program
+  --           ends the options
+
+The exit status is 0 where the record is stored and 1 where it is not, where the arguments are wrong, and where something
+stops the run, which is told on standard error by its name and the reason. Then STEP.bin is as it was.
+";
+
+const ABOUT: About = About {
+    version: "record 0.1.0\n",
+    usage: "record START.obj END.obj STEP.bin",
+    help: HELP,
+    least: 3,
+    most: 3,
+    has_refused: false,
+};
+
 fn main(rt: HostRuntime) -> ExitCode {
-    match run(&rt) {
-        Ok(()) => ExitCode::SUCCESS,
-        Err(_) => ExitCode::FAILURE,
-    }
+    ExitCode::from(record_command(&rt))
 }
 
-fn run(rt: &HostRuntime) -> anyhow::Result<()> {
-    let mut args = env::args(rt)?.skip(1);
-    let (Some(start), Some(end), Some(step), None) = (
-        args.next(),
-        args.next(),
-        args.next(),
-        args.next(),
-    ) else {
-        eprintln!(rt; "usage: record START.obj END.obj STEP.bin")?;
-        return Err(anyhow!("not three files"));
+/// Does what the command line asks for: the exit status.
+fn record_command(rt: &HostRuntime) -> u8 {
+    let given = match given(rt, &ABOUT) {
+        Ok(given) => given,
+        Err(status) => return status,
     };
-    let start = load_frame(rt, Path::new(start.as_str()))?;
-    let end = load_frame(rt, Path::new(end.as_str()))?;
-    record(rt, start, &end, Path::new(step.as_str()))
-}
-
-/// Loads a frame. Where it has a fault, its name is told on standard error beside the fault's line.
-fn load_frame(rt: &HostRuntime, path: Path<'_>) -> anyhow::Result<Frame> {
-    let text = load(rt, path, deciding_len())?;
-    match read_frame(rt.alloc(), text.as_slice())? {
-        Ok(frame) => Ok(frame),
-        Err(fault) => {
-            println!(rt; "{}", fault.notice().line())?;
-            eprintln!(rt; "{}: it has a fault", path.display())?;
-            Err(anyhow!("a frame has a fault"))
-        }
-    }
-}
-
-/// Stores the record of the step between two frames, unless they differ, and tells what came of them.
-fn record(rt: &HostRuntime, start: Frame, end: &Frame, path: Path<'_>) -> anyhow::Result<()> {
-    let recording = recording_of(rt.alloc(), start, end)?;
-    if let Some(bytes) = &recording.bytes {
-        fs::write(rt, path, bytes.as_slice())?;
-    }
-    println!(rt; "{}", recording.line)?;
-    if recording.bytes.is_none() {
-        return Err(anyhow!("the frames differ"));
-    }
-    Ok(())
+    let mut places = given.places.into_iter();
+    let (Some(start), Some(end), Some(step)) = (places.next(), places.next(), places.next()) else {
+        return 1;
+    };
+    record_frames(rt, Paths { start, end, step })
 }

@@ -4,10 +4,13 @@
 mod draws;
 mod samples;
 
+use commands::{About, given};
 use draws::{Draws, Sum};
+use files::tell;
 use filters::{BoxFilter, DELIVERED, Filter, PlaneFilter, SlabFilter, Test, controls, struck_at};
 use samples::{Class, sample};
 use std::io;
+use std::process::ExitCode;
 
 const TESTS: u32 = 1000;
 
@@ -26,7 +29,51 @@ struct Tally {
     rows: Counts,
 }
 
-fn main(rt: HostRuntime) -> io::Result<()> {
+const HELP: &str = "\
+usage: verdicts
+
+Strikes seven classes of 1,000 pseudo-random tests with each filter at each depth from 0 to 6, and prints
+  CLASS FILTER N N N N N N N   how many tests of the class the filter struck, at each depth
+  CLASS checksum N             a sum over all values and verdicts so far
+docs/RULES.md has the classes, the numbers and the sum, so that another program can print the same.
+
+  -h, --help   prints this
+  --version    prints the number of the program
+  --           ends the options
+
+The exit status is 0, and 1 where the arguments are wrong and where something stops the run, which is told on standard
+error by its name and the reason.
+";
+
+const ABOUT: About = About {
+    version: "verdicts 0.1.0\n",
+    usage: "verdicts",
+    help: HELP,
+    least: 0,
+    most: 0,
+    has_refused: false,
+};
+
+fn main(rt: HostRuntime) -> ExitCode {
+    ExitCode::from(verdicts_command(&rt))
+}
+
+/// Does what the command line asks for: the exit status.
+fn verdicts_command(rt: &HostRuntime) -> u8 {
+    match given(rt, &ABOUT) {
+        Ok(_) => {}
+        Err(status) => return status,
+    }
+    match print_verdicts(rt) {
+        Ok(()) => 0,
+        Err(e) => {
+            tell(rt, "standard output", e);
+            1
+        }
+    }
+}
+
+fn print_verdicts(rt: &HostRuntime) -> io::Result<()> {
     let mut draws = Draws::new();
     let mut sum = Sum::new();
     for class in [
@@ -39,7 +86,7 @@ fn main(rt: HostRuntime) -> io::Result<()> {
         Class::Limits,
     ] {
         let tally = judge_class(class, &mut draws, &mut sum);
-        print(&rt, class.name(), &tally, &sum)?;
+        print(rt, class.name(), &tally, &sum)?;
     }
     Ok(())
 }

@@ -1,0 +1,61 @@
+-- A work whose files are placed on a disk, each at a path, and what it stores at a target, if any.
+use Rattle.std.specs.Prelude.{◌≡◌, ℕ, List, [], ◌∷◌, ◌⊎◌, Some, None, Option, Ok, Err, Result}
+use Rattle.std.specs.Option.{option_map}
+use Rattle.hosts.specs.Events.{Event, Read, Printed, Stored, Call, Reading, Printing, Storing}
+use Rattle.files.specs.Deeds.{Deed, ReadAt, PrintedOut, Flushed, StoredAt, Task, ReadingAt, PrintingOut, Flushing, StoringAt, DoesAll}
+use Rattle.files.specs.declared.placed.Placed.{Placed}
+
+-- ---- what a work's call is on the disk: nothing, where it stores and there is no target
+module _ {F : Type 0} (path : F → List ℕ) (target : Option (List ℕ)) where
+  abbrev pub deed_of : Event F → Option (Deed F)
+  deed_of (Read f n bytes) = Some (ReadAt f (path f) n bytes)
+  deed_of (Printed bytes) = Some (PrintedOut bytes)
+  deed_of (Stored bytes) = option_map (λ p. StoredAt p bytes) target
+
+  abbrev pub call_of : Call F → Option (Task F)
+  call_of (Reading f) = Some (ReadingAt f (path f))
+  call_of Printing = Some PrintingOut
+  call_of Storing = option_map StoringAt target
+
+module _ {D P F : Type 0} (path : P → F → List ℕ) (target : P → Option (List ℕ))
+    (does : D → Deed F → D → Type 0) where
+  abbrev pub DoesIfAny : D → Option (Deed F) → D → Type 0
+  DoesIfAny s (Some deed) t = does s deed t
+  DoesIfAny s None t = t ≡ s
+
+  pub record DoesPlaced (s : Placed D P) (e : Event F) (t : Placed D P) : Type 0 where
+    pub paths : t.paths ≡ s.paths
+    pub done : DoesIfAny s.disk (deed_of (path s.paths) (target s.paths) e) t.disk
+
+module _ {D P F E : Type 0} (path : P → F → List ℕ) (target : P → Option (List ℕ))
+    (fails : D → Task F → E → D → Type 0) where
+  abbrev pub FailsIfAny : D → Option (Task F) → E → D → Type 0
+  FailsIfAny s (Some task) e t = fails s task e t
+  FailsIfAny s None e t = ⊥
+
+  pub record FailsPlaced (s : Placed D P) (call : Call F) (e : E) (t : Placed D P) : Type 0 where
+    pub paths : t.paths ≡ s.paths
+    pub failed : FailsIfAny s.disk (call_of (path s.paths) (target s.paths) call) e t.disk
+
+-- ---- a whole run: the work, and the last that is done on the disk, which its answer decides
+module _ {D P F E X : Type 0} (does : D → Deed F → D → Type 0) (fails : D → Task F → E → D → Type 0)
+    (Works : Placed D P → Result X E → Placed D P → Type 0) (lasts : P → X → List (Deed F)) where
+  abbrev pub Ends : X → Placed D P → Result X E → Placed D P → Type 0
+  Ends x s r t = DoesAll does fails (lasts s.paths x) s.disk r t.disk
+
+  -- what was printed goes out, if that can be done
+  abbrev pub TriesToFlush : D → D → Type 0
+  TriesToFlush s t = does s Flushed t ⊎ ((e : E) × fails s Flushing e t)
+
+  pub record RunsWell (s : Placed D P) (x : X) (t : Placed D P) : Type 0 where
+    pub between : Placed D P
+    pub works : Works s (Ok x) between
+    pub ends : Ends x between (Ok x) t
+
+  pub data StopsEarly (s : Placed D P) (e : E) (t : Placed D P) : Type 0 where
+    at_work : (m : Placed D P) → Works s (Err e) m → TriesToFlush m.disk t.disk → StopsEarly s e t
+    at_its_end : (m : Placed D P) (x : X) → Works s (Ok x) m → Ends x m (Err e) t → StopsEarly s e t
+
+  abbrev pub Runs : Placed D P → Result X E → Placed D P → Type 0
+  Runs s (Ok x) t = RunsWell s x t
+  Runs s (Err e) t = StopsEarly s e t

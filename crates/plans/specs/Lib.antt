@@ -1,0 +1,2 @@
+pub mod PlanPaths
+pub mod Runs

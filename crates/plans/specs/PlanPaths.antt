@@ -1,0 +1,34 @@
+-- Where a plan's files lie.
+use Rattle.std.specs.Prelude.{◌≡◌, ℕ, List, [], Option, codes, string_bytes}
+use Rattle.std.specs.Option.{option_map, unwrap_or}
+use Rattle.std.specs.Path.{path_join, path_buf_bytes}
+use Rattle.files.specs.declared.failures.Place.{Place}
+use Rattle.files.specs.declared.failures.Place.TheVariants.{File, Output, Target, Memory}
+use Rattle.printout.specs.declared.plan_files.PlanFile.{PlanFile}
+use Rattle.printout.specs.declared.plan_files.PlanFile.TheVariants.{Sheet, Step, Pairs}
+use Rattle.plans.specs.declared.paths.Paths.{Paths}
+
+abbrev pub file_name : PlanFile → List ℕ
+file_name Sheet = codes "sheet.obj"
+file_name Step = codes "step.bin"
+file_name Pairs = codes "pairs.bin"
+
+abbrev pub path_of : Paths → PlanFile → List ℕ
+path_of p Sheet = path_buf_bytes p.sheet
+path_of p Step = path_buf_bytes p.step
+path_of p Pairs = path_buf_bytes p.pairs
+
+-- where refused pairs are stored, if they are
+abbrev pub refused_path : Paths → Option (List ℕ)
+refused_path p = option_map string_bytes p.refused
+
+-- the paths are those in this folder
+abbrev pub AreIn : List ℕ → Paths → Type 0
+AreIn folder p = (f : PlanFile) → path_of p f ≡ path_join folder (file_name f)
+
+-- by which name a failure is told
+abbrev pub place_name : Paths → Place PlanFile → List ℕ
+place_name p (File f) = path_of p f
+place_name p Output = codes "standard output"
+place_name p Target = unwrap_or (refused_path p) []
+place_name p Memory = codes "memory"

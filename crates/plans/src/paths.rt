@@ -1,0 +1,86 @@
+// Where the files of a plan lie.
+ghost use Rattle.std.specs.Prelude.{◌≡◌, IfOk};
+ghost use Rattle.plans.specs.PlanPaths.{file_name};
+
+use files::{Place, Places};
+use printout::PlanFile;
+use std::alloc::{AllocError, Global};
+use std::path::{Path, PathBuf};
+
+/// The paths of a plan's files, and of the file that its refused pairs are stored in, if they are.
+#[derive(Drop)]
+pub struct Paths {
+    pub sheet: PathBuf,
+    pub step: PathBuf,
+    pub pairs: PathBuf,
+    pub refused: Option<String>,
+}
+
+impl Paths {
+    ghost use Rattle.plans.specs.PlanPaths.{AreIn, place_name};
+
+    /// The paths in a folder.
+    pub fn in_folder(
+        alloc: Global,
+        folder: &str,
+        refused: Option<String>,
+    ) -> Result<Paths, AllocError>
+        ensures files { IfOk result (AreIn folder.now) }
+        ensures refused { IfOk result (λ p. p.refused ≡ refused) }
+    {
+        let folder = Path::new(folder);
+        Ok(Paths {
+            sheet: folder.join(alloc, name_of(PlanFile::Sheet))?,
+            step: folder.join(alloc, name_of(PlanFile::Step))?,
+            pairs: folder.join(alloc, name_of(PlanFile::Pairs))?,
+            refused,
+        })
+    }
+
+    /// By which name a failure is told.
+    pub fn name(&self, place: Place<PlanFile>) -> &str
+        ensures { result.now ≡ place_name self.now place }
+    {
+        match place {
+            Place::File(file) => self.path(file),
+            Place::Output => "standard output",
+            Place::Target => self.target().unwrap_or(""),
+            Place::Memory => "memory",
+        }
+    }
+}
+
+impl Places for Paths {
+    ghost use Rattle.plans.specs.PlanPaths.{path_of, refused_path};
+
+    type File = PlanFile;
+
+    ghost path_of = { path_of };
+
+    ghost target_of = { refused_path };
+
+    fn path(&self, file: PlanFile) -> &str {
+        match file {
+            PlanFile::Sheet => self.sheet.as_str(),
+            PlanFile::Step => self.step.as_str(),
+            PlanFile::Pairs => self.pairs.as_str(),
+        }
+    }
+
+    fn target(&self) -> Option<&str> {
+        match &self.refused {
+            Some(path) => Some(path.as_str()),
+            None => None,
+        }
+    }
+}
+
+fn name_of(file: PlanFile) -> &'static str
+    ensures { result.now ≡ file_name file }
+{
+    match file {
+        PlanFile::Sheet => "sheet.obj",
+        PlanFile::Step => "step.bin",
+        PlanFile::Pairs => "pairs.bin",
+    }
+}

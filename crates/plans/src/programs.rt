@@ -1,0 +1,35 @@
+// An inspection by the system.
+use crate::paths::Paths;
+use crate::runs::{inspect_placed, status};
+use files::{Machine, Placed, Watched, tell};
+use printout::{PlanFile, Tables};
+
+/// What is told on a terminal: how many pairs are done.
+const PAIRS: Watched<PlanFile> = Watched {
+    file: PlanFile::Pairs,
+    things: "pairs",
+    size: 4,
+};
+
+/// Inspects the plan in a folder, and stores its refused pairs where a file is named for them: the
+/// exit status. What stops the run is told.
+pub fn inspect_folder(rt: &HostRuntime, folder: &str, refused: Option<String>) -> u8 {
+    let Ok(paths) = Paths::in_folder(rt.alloc(), folder, refused) else {
+        tell(rt, "memory", "out of memory");
+        return 1;
+    };
+    let disk = match Machine::new(*rt, Some(PAIRS)) {
+        Ok(disk) => disk,
+        Err(failure) => {
+            tell(rt, paths.name(failure.place), failure.reason);
+            return 1;
+        }
+    };
+    let mut tables = Tables::new();
+    let mut plan = Placed { disk, paths };
+    let run = inspect_placed(&mut tables, &mut plan);
+    if let Err(failure) = &run {
+        tell(rt, plan.paths.name(failure.place), failure.reason);
+    }
+    status(&run)
+}

@@ -1,0 +1,2 @@
+pub mod FramePaths
+pub mod Runs

@@ -1,0 +1,26 @@
+// A recording by the system.
+use crate::paths::Paths;
+use crate::runs::{record_placed, status};
+use files::{Machine, Placed, Places, tell};
+use frames::{Recording, Tables};
+
+/// Records the step between two frames: the exit status. What stops the run is told, and the frame
+/// that has a fault.
+pub fn record_frames(rt: &HostRuntime, paths: Paths) -> u8 {
+    let disk = match Machine::new(*rt, None) {
+        Ok(disk) => disk,
+        Err(failure) => {
+            tell(rt, paths.name(failure.place), failure.reason);
+            return 1;
+        }
+    };
+    let mut tables = Tables::new();
+    let mut frames = Placed { disk, paths };
+    let run = record_placed(&mut tables, &mut frames);
+    match &run {
+        Err(failure) => tell(rt, frames.paths.name(failure.place), failure.reason),
+        Ok(Recording::Faulty(file)) => tell(rt, frames.paths.path(*file), "it has a fault"),
+        Ok(_) => {}
+    }
+    status(&run)
+}
