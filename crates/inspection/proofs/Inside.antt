@@ -1,6 +1,6 @@
 -- Tests of faces of a sheet have numbers of the sheet, and so has what is listed of them.
-use Rattle.std.proofs.Common.{◌≡◌, ℕ, ◌<◌, ◌≤◌, Bool, true, false, if◌then◌else◌, ◌&&◌, not, IsTrue, List, [], ◌∷◌, ◌++◌, All, length, nat_lt, nat_le, refl, sym, ap, ◌∙◌, subst, arith}
-use Rattle.std.proofs.lemmas.Bool.{lt-ltb, ltb-false}
+use Rattle.std.proofs.Common.{◌≡◌, ℕ, ◌<◌, Bool, true, false, if◌then◌else◌, ◌&&◌, IsTrue, List, [], ◌∷◌, All, length, nat_lt, refl, arith}
+use Rattle.std.proofs.lemmas.Bool.{lt-ltb}
 use Rattle.std.proofs.lemmas.Bool.Decides.{nat_tests}
 use Rattle.std.proofs.lemmas.List.Elements.{All-append, All-cons, All-nil, All-push, All-head, All-tail}
 use Rattle.sheet.specs.declared.rows.Face.{Face}
@@ -11,8 +11,8 @@ use Rattle.inspection.specs.declared.names.EeName.{EeName}
 use Rattle.inspection.specs.declared.names.Edge.{Edge}
 use Rattle.inspection.specs.Classes.{Rules, class_of, entries_with, entries_after}
 use Rattle.inspection.specs.Names.{edge_of, ee_name_of, name_in_order}
-use Rattle.inspection.specs.Offerings.{Offering, Faces}
-use Rattle.inspection.specs.Pairs.{corners_against, vf_tests, edges, edge_against, edges_against, ee_tests}
+use Rattle.inspection.specs.Offerings.{Faces}
+use Rattle.inspection.specs.Pairs.{corners_against, edges, edge_against, edges_against}
 use Rattle.inspection.specs.Sheets.{Sheet, face_at}
 use Rattle.inspection.specs.Tests.{corners_inside, vf_inside, ee_inside, vf_tests_of, ee_tests_of}
 

@@ -1,8 +1,8 @@
 -- The front of a record that is too long decides as the whole does.
-use Rattle.std.proofs.Common.{◌≡◌, ℕ, ◌+◌, ◌-◌, ◌*◌, ◌<◌, ◌≤◌, ℤ, ◌+ℤ◌, Bool, true, false, not, if◌then◌else◌, eqb, ltb, List, [], ◌∷◌, ◌++◌, length, take, drop, slice_index, Some, None, nat_lt, ◌==◌, refl, sym, ap, ◌∙◌, arith, length-take, length-drop}
+use Rattle.std.proofs.Common.{◌≡◌, ℕ, ◌+◌, ◌-◌, ◌*◌, ◌<◌, ◌≤◌, ℤ, ◌+ℤ◌, Bool, true, false, not, if◌then◌else◌, ltb, List, [], ◌∷◌, ◌++◌, length, take, drop, slice_index, Some, None, nat_lt, ◌==◌, refl, sym, ap, ◌∙◌, arith, length-take, length-drop}
 use Rattle.std.proofs.lemmas.List.{take_all, get_or-take, drop-take}
 use Rattle.std.proofs.lemmas.Bool.Decides.{nat_tests}
-use Rattle.std.proofs.lemmas.Bool.{eqb-true, not-false, ltb-false}
+use Rattle.std.proofs.lemmas.Bool.{eqb-true, not-false}
 use Rattle.std.specs.Option.{option_or}
 use Rattle.sheet.specs.Checks.{first_fit}
 use Rattle.sheet.specs.Counted.{counted, in_range}
@@ -90,9 +90,10 @@ module _ (k : ℕ) (bs : List ℕ) (p : Point) (i : ℕ) (eight : 8 ≤ k) where
   behind_row =
       let x = few (bit_stands (map_in bs) 1) in
       let y = few (bit_stands (map_in bs) 2) in
-      let z = few (bit_stands (map_in bs) 4) in
-      (k - 1 - used (bit_stands (map_in bs) 1) - used (bit_stands (map_in bs) 2) - used (bit_stands (map_in bs) 4),
-      (omega (arith, eight, x, y, z), ap (λ n. after_fields n (drop 1 (take k bs))) map ∙ behind_z))
+      let z = few (bit_stands (map_in bs) 4) in (
+        k - 1 - used (bit_stands (map_in bs) 1) - used (bit_stands (map_in bs) 2) - used (bit_stands (map_in bs) 4),
+        (omega (arith, eight, x, y, z), ap (λ n. after_fields n (drop 1 (take k bs))) map ∙ behind_z),
+      )
 
 shorter : (stands : Bool) (xs : List ℕ) → length xs ≤ length (after_field stands xs) + 2
 shorter true xs = omega (arith, length-drop 2 xs)
