@@ -1,8 +1,10 @@
 //! Where a program's bytes come from and go to.
 #![tactic(auto)]
 
+mod copying;
 mod hosts;
 mod pages;
 
+pub use copying::copy_front;
 pub use hosts::Host;
 pub use pages::Page;

@@ -1,5 +1,6 @@
 pub mod FileByFile
 pub mod Files
+pub mod Kept
 pub mod Offers
 pub mod Phases
 pub mod Reported

@@ -4,3 +4,4 @@ pub mod Plans
 pub mod Outcomes
 pub mod Progress
 pub mod Phases
+pub mod Memory

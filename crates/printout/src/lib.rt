@@ -2,6 +2,7 @@
 #![tactic(auto)]
 
 mod endings;
+mod memory;
 mod notices;
 mod offering;
 mod pairs;
@@ -10,6 +11,7 @@ mod plans;
 mod tables;
 
 pub use endings::Ending;
+pub use memory::{Inspected, inspect_bytes};
 pub use plan_files::PlanFile;
 pub use plans::inspect_plan;
 pub use tables::Tables;
