@@ -7,7 +7,7 @@ use Rattle.hosts.specs.Pages.{Shows, Filled}
 use Rattle.hosts.specs.Traces.{Went, nothing, next}
 use Rattle.hosts.proofs.Writing.{printed-writes, stored-writes}
 use Rattle.step.specs.Steps.{Step}
-use Rattle.frames.specs.Frames.{Frames, points_of, step_between}
+use Rattle.frames.specs.Frames.{points_of, step_between}
 use Rattle.frames.specs.Memory.{frames_in, Holds, HoldsMore, NeverFails}
 use Rattle.frames.specs.Outcomes.{Outcome, outcome, with_line_feed, stored_first, writes_of}
 use Rattle.frames.specs.Works.{Records}

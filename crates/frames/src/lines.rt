@@ -43,7 +43,7 @@ fn counts_line(start: u16, end: u16, things: &str) -> Line
     line
 }
 
-/// The line that tells the step to these rows, which are the draft's points: how many there are, how
+/// The line that tells a step, whose points are these rows of the draft: how many there are, how
 /// many of them move, and the length of its record.
 pub(crate) fn step_line(draft: &Draft, rows: &[Point], bytes: usize) -> Line
     requires { length rows.now ≡ draft.now.points }

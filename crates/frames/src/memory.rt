@@ -96,7 +96,7 @@ pub fn record_frames(
     ensures record_len { let f = frames start.now end.now in
         result.record_len ≡ min (length (unwrap_or (outcome f).record_stored [])) (2 ^ 64 - 1) }
     ensures means { let f = frames start.now end.now in
-        IfSome (outcome f).record_stored (λ bytes. Step (points_of f.start) bytes (step_between f)) }
+        IfSome (outcome f).record_stored (λ bs. Step (points_of f.start) bs (step_between f)) }
 {
     let mut kept = Page::new(bytes);
     let mut line = Page::new(line);
@@ -123,7 +123,7 @@ fn record_in(tables: &mut Tables, memory: &mut Memory<'_, '_, '_, '_, '_, '_>) -
     ensures kept { let f = frames_in memory.old in
         Filled memory.old.kept.now memory.new.kept.now (unwrap_or (outcome f).record_stored []) }
     ensures means { let f = frames_in memory.old in
-        IfSome (outcome f).record_stored (λ bytes. Step (points_of f.start) bytes (step_between f)) }
+        IfSome (outcome f).record_stored (λ bs. Step (points_of f.start) bs (step_between f)) }
     ensures same_kept { memory.new.kept.ghost_name ≡ memory.old.kept.ghost_name }
     ensures same_line { memory.new.line.ghost_name ≡ memory.old.line.ghost_name }
 {

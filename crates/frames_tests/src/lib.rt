@@ -1,9 +1,12 @@
-//! Tests of the crate `frames` on examples: in a crate of their own, since a crate with tests is proved twice.
+//! Tests of the crate `frames` on examples: in a crate of their own, since a crate with tests is
+//! proved twice.
 #![tactic(auto)]
 
 #[cfg(test)]
 mod hosts;
 #[cfg(test)]
 mod recorded;
+#[cfg(test)]
+mod remembered;
 #[cfg(test)]
 mod stopped;

@@ -36,8 +36,8 @@ pub record IsFront {X : Type 0} (front whole : List X) : Type 0 where
   pub parts : whole ≡ front ++ rest
 
 -- ---- a work that writes just this, and answers so
-pub record IsWritten {F X : Type 0} (all : List (Event F)) (answer : X) (es : List (Event F)) (x : X)
-    : Type 0 where
+pub record IsWritten {F X : Type 0}
+    (all : List (Event F)) (answer : X) (es : List (Event F)) (x : X) : Type 0 where
   pub writes : es ≡ all
   pub answers : x ≡ answer
 
