@@ -2,4 +2,10 @@
 #![tactic(auto)]
 
 #[cfg(test)]
+mod failing;
+#[cfg(test)]
+mod long;
+#[cfg(test)]
 mod plans;
+#[cfg(test)]
+mod stopped;
