@@ -9,7 +9,7 @@ ghost use Rattle.frames.specs.Memory.{frames_in};
 use crate::frame_files::{FrameFile, Recording};
 use crate::recording::record_step;
 use crate::tables::Tables;
-use hosts::{Host, Page};
+use hosts::{Host, Page, copy_front};
 use std::convert::Infallible;
 
 /// What comes of two frames, and how long its line and its record are.
@@ -64,16 +64,6 @@ impl Host for Memory<'_, '_, '_, '_, '_, '_> {
     fn store(&mut self, bytes: &[u8]) -> Result<(), Infallible> {
         self.kept.print(bytes)
     }
-}
-
-/// Copies as much of the front as there is room for, and answers how much.
-fn copy_front(bytes: &[u8], buf: &mut [u8]) -> usize
-    ensures count { result ≡ min (length buf.old) (length bytes.now) }
-    ensures front { take result buf.new ≡ take (length buf.old) bytes.now }
-{
-    let n = buf.len().min(bytes.len());
-    buf[..n].copy_from_slice(&bytes[..n]);
-    n
 }
 
 /// Records the step between two frames in memory: puts the record and the line into the front of

@@ -17,7 +17,7 @@ written_behind page text at i n e f = same_lists _ _ (search (rules, places)) (�
 pub printed_shown : {X : Type 0} (p q : Page) (text : List ℕ) (r : Result X Infallible) → Prints ShowsMore NeverFails text p r q → Filled p q text
 printed_shown p q text (Ok x) done lent empty = subst (λ t. Shows lent t q) done.good.whole (after p q done.events done.went empty)
   where
-    after : (p q : Page) (es : List (Event Infallible)) → Went ShowsMore p es q → Shows lent [] p → Shows lent (printed es) q
+    after : (p q : Page) (es : List (Event (Unit {0}))) → Went ShowsMore p es q → Shows lent [] p → Shows lent (printed es) q
     after p q es nothing shown = shown
     after p q es (next {t = t} {es = before} e went does) shown =
         subst (λ bytes. Shows lent bytes q) (ap (λ bytes. printed before ++ bytes) (sym (append-nil (printed_by e))) ∙ sym (flat_map-append printed_by before (e ∷ [])))

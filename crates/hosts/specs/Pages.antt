@@ -24,10 +24,10 @@ abbrev pub Filled : Page → Page → List ℕ → Type 0
 Filled p q text = (lent : MutBor (List ℕ)) → Shows lent [] p → Shows lent text q
 
 -- whatever is shown, what is printed comes behind it; what is stored is let go
-abbrev pub ShowsMore : Page → Event Infallible → Page → Type 0
+abbrev pub ShowsMore : Page → Event (Unit {0}) → Page → Type 0
 ShowsMore p e q =
     (lent : MutBor (List ℕ)) (text : List ℕ)
     → Shows lent text p → Shows lent (text ++ printed_by e) q
 
-abbrev pub NeverFails : Page → Call Infallible → Infallible → Page → Type 0
+abbrev pub NeverFails : Page → Call (Unit {0}) → Infallible → Page → Type 0
 NeverFails p call e q = ⊥

@@ -5,7 +5,7 @@ ghost use Rattle.hosts.specs.Pages.{onto_page};
 use crate::hosts::Host;
 use std::convert::Infallible;
 
-/// Lent bytes as a host: a page reads nothing and keeps nothing that is stored. What is printed
+/// Lent bytes as a host: a page has nothing to read and keeps nothing that is stored. What is printed
 /// stands in their front, as far as there is room, and is counted to its end.
 #[derive(Drop)]
 pub struct Page<'a> {
@@ -35,7 +35,8 @@ impl<'a> Page<'a> {
 impl Host for Page<'_> {
     ghost use Rattle.hosts.specs.Pages.{ShowsMore, NeverFails};
 
-    type File = Infallible;
+    // one, and it is empty
+    type File = ();
 
     type Error = Infallible;
 
@@ -45,8 +46,8 @@ impl Host for Page<'_> {
 
     ghost most = { λ p. 0 };
 
-    fn fill(&mut self, file: Infallible, _buf: &mut [u8]) -> Result<usize, Infallible> {
-        match file {}
+    fn fill(&mut self, _file: (), _buf: &mut [u8]) -> Result<usize, Infallible> {
+        Ok(0)
     }
 
     fn print(&mut self, bytes: &[u8]) -> Result<(), Infallible> {
