@@ -1,5 +1,4 @@
 pub mod Between
-pub mod Fronts
 pub mod Steps
 pub mod Texts
 pub mod Runs

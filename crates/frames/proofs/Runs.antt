@@ -4,9 +4,10 @@ use Rattle.std.proofs.lemmas.List.{append-nil}
 use Rattle.std.proofs.lemmas.List.Elements.{All-nil}
 use Rattle.std.proofs.lemmas.List.Concat.{flat_map-append}
 use Rattle.std.proofs.lemmas.List.Sums.{sum_by-cons}
-use Rattle.hosts.specs.Events.{Event, Read, Printed, Call, Reading, files_read, file_read_by, asked, asked_by, came}
+use Rattle.hosts.specs.Events.{Event, Read, Printed, Call, Reading, files_read, file_read_by, asked, asked_by, came, unread}
 use Rattle.hosts.specs.Traces.{Went}
-use Rattle.hosts.specs.Writing.{BeganTo, at_none, IsFront, Writes, writes, write_of, unread}
+use Rattle.hosts.specs.Works.{IsFront}
+use Rattle.hosts.specs.Writing.{BeganTo, at_none, Writes, writes, write_of}
 use Rattle.hosts.proofs.Histories.{went_on, not_asked, not_came}
 use Rattle.hosts.proofs.Writing.{writes-began, files_read-began}
 use Rattle.step.specs.Steps.{Step}

@@ -11,7 +11,7 @@ use Rattle.sheet.specs.declared.rows.Face.{Face}
 use Rattle.sheet.specs.declared.rows.Point.{Point}
 use Rattle.frames.specs.Frames.{frame_fault, points_of, faces_of}
 use Rattle.frames.specs.Reading.{IsFrame, Says}
-use Rattle.frames.proofs.Fronts.{front_decides, front_is_whole}
+use Rattle.sheet.proofs.Fronts.{front_decides, front_is_whole}
 
 first_rows : {X : Type 0} (n : ℕ) (rows table full : List X) → n ≡ length rows → full ≡ onto_front rows table → take n full ≡ rows
 first_rows n rows table full e h = rw (e, h) (take-append_seam rows (drop (length rows) table))

@@ -1,8 +1,8 @@
 -- What the work of `record` comes to, whatever bytes the files have beyond those that came.
 use Rattle.std.specs.Prelude.{◌≡◌, Bool, true, false, List, ◌++◌, IfSome, Result}
-use Rattle.hosts.specs.Events.{Event, Call, Fits, files_read}
-use Rattle.hosts.specs.Works.{Worked}
-use Rattle.hosts.specs.Writing.{BeganTo, IsFront, unread, writes}
+use Rattle.hosts.specs.Events.{Event, Call, Fits, files_read, unread}
+use Rattle.hosts.specs.Works.{Worked, IsFront}
+use Rattle.hosts.specs.Writing.{BeganTo, writes}
 use Rattle.step.specs.Steps.{Step}
 use Rattle.frames.specs.Frames.{Frames, text_of, points_of, step_between}
 use Rattle.frames.specs.Outcomes.{outcome, writes_of, needed}

@@ -1,6 +1,6 @@
 -- What a work writes: what it prints and stores, call by call.
 use Rattle.std.specs.Prelude.{◌≡◌, ℕ, List, [], ◌∷◌, ◌++◌, flat_map, Result}
-use Rattle.hosts.specs.Events.{Event, Read, Printed, Stored, Call, Reading, Printing, Storing}
+use Rattle.hosts.specs.Events.{Event, Read, Printed, Stored, Call, unread}
 use Rattle.hosts.specs.Works.{Worked}
 
 abbrev pub write_of : {F : Type 0} → Event F → List (Event F)
@@ -23,17 +23,6 @@ pub data BeganTo {F : Type 0} : List (Event F) → List (Event F) → Type 0 whe
       → BeganTo (Printed bytes ∷ all) (Printed bytes ∷ es)
   after_store : {all es : List (Event F)} (bytes : List ℕ) → BeganTo all es
       → BeganTo (Stored bytes ∷ all) (Stored bytes ∷ es)
-
--- the file that could not be read, if it was reading that failed
-abbrev pub unread : {F : Type 0} → Call F → List F
-unread (Reading f) = f ∷ []
-unread Printing = []
-unread Storing = []
-
--- a front of a list
-pub record IsFront {X : Type 0} (front whole : List X) : Type 0 where
-  pub rest : List X
-  pub parts : whole ≡ front ++ rest
 
 -- ---- a work that writes just this, and answers so
 pub record IsWritten {F X : Type 0}
