@@ -3,7 +3,7 @@
 #![tactic(auto)]
 
 #[cfg(test)]
-mod hosts;
+mod failing;
 #[cfg(test)]
 mod recorded;
 #[cfg(test)]

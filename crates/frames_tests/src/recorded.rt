@@ -1,5 +1,5 @@
 // What comes of two texts, where all calls go well.
-use crate::hosts::{Failure, TestHost};
+use crate::failing::{Failure, TestHost};
 use frames::{FrameFile, Recording, Tables, record_step};
 use std::alloc::Global;
 use std::test::Fail;

@@ -1,5 +1,5 @@
 // A call that fails stops the work, and what was done before stands.
-use crate::hosts::{Failure, TestHost};
+use crate::failing::{Failure, TestHost};
 use frames::{Tables, record_step};
 use std::test::Fail;
 
