@@ -1,4 +1,6 @@
 // The words of a command line.
+ghost use Rattle.std.specs.Prelude.{◌≡◌, ◌<◌, ◌↔◌, length, slice_index, IsTrue};
+
 use std::alloc::{AllocError, Global};
 use std::env::Args;
 
@@ -60,6 +62,9 @@ pub(crate) fn read_words(
 }
 
 /// A word that begins with a dash is an option, unless it is a dash alone.
-fn is_option(word: &str) -> bool {
-    word.starts_with('-') && word.len() > 1
+fn is_option(word: &str) -> bool
+    ensures { IsTrue result ↔ ((slice_index word.now 0 ≡ 45) × (1 < length word.now)) }
+{
+    let bytes = word.as_bytes();
+    bytes.len() > 1 && bytes[0] == b'-'
 }

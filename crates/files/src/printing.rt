@@ -1,5 +1,5 @@
 // Printing through a buffer.
-ghost use Rattle.std.specs.Prelude.{◌≡◌, ◌≤◌, [], OnOk, length};
+ghost use Rattle.std.specs.Prelude.{◌≡◌, ◌-◌, ◌≤◌, ◌↔◌, [], IsTrue, OnOk, vec_len};
 ghost use Rattle.std.specs.Io.KnownBytes.{Appends, append_known};
 
 use std::alloc::{AllocError, Global};
@@ -28,7 +28,7 @@ impl Held {
             (Appends (append_known (W.contents out.old) self.old.bytes.items)
             (append_known (W.contents out.new) self.new.bytes.items) bytes.now) }
     {
-        if bytes.len() > ROOM.saturating_sub(self.bytes.len()) {
+        if !self.has_room(bytes.len()) {
             self.flush(out)?;
         }
         if bytes.len() > ROOM {
@@ -36,6 +36,13 @@ impl Held {
         }
         self.bytes.extend_from_slice(bytes)?;
         Ok(())
+    }
+
+    /// Whether so many more bytes can be held back.
+    pub(crate) fn has_room(&self, more: usize) -> bool
+        ensures { IsTrue result ↔ (more ≤ ROOM - vec_len self.now.bytes) }
+    {
+        more <= ROOM.saturating_sub(self.bytes.len())
     }
 
     /// Lets all out.

@@ -1,4 +1,4 @@
-// The gate's run of an inspection with refused pairs among good ones.
+// The gate's run of an inspection with refused pairs among good ones, which are stored.
 #![tactic(auto)]
 
 use plans::inspect_command;
