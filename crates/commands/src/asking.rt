@@ -1,4 +1,6 @@
 // What a program is asked for.
+ghost use Rattle.std.specs.Prelude.{◌≡◌, ◌≤◌, IfOk, IfErr, vec_len};
+
 use crate::words::{Asked, Given, read_words};
 use files::tell;
 use std::io::{ErrorKind, Print};
@@ -20,7 +22,11 @@ pub struct About {
 
 /// What a program is given, or the exit status where there is nothing more to do: a help was
 /// printed, or it was told what is wrong.
-pub fn given(rt: &HostRuntime, about: &About) -> Result<Given, u8> {
+pub fn given(rt: &HostRuntime, about: &About) -> Result<Given, u8>
+    ensures status { IfErr result (λ status. status ≤ 1) }
+    ensures count { IfOk result (λ g. about.now.least ≤ vec_len g.places) }
+    ensures few { IfOk result (λ g. vec_len g.places ≤ about.now.most) }
+{
     let words = match env::args(rt) {
         Ok(words) => words,
         Err(e) => return Err(untold(rt, e)),
@@ -44,7 +50,9 @@ pub fn given(rt: &HostRuntime, about: &About) -> Result<Given, u8> {
     }
 }
 
-fn printed(rt: &HostRuntime, text: &str) -> u8 {
+fn printed(rt: &HostRuntime, text: &str) -> u8
+    ensures { result ≤ 1 }
+{
     match rt.write_all(text.as_bytes()) {
         Ok(()) => 0,
         Err(e) => {
@@ -54,12 +62,16 @@ fn printed(rt: &HostRuntime, text: &str) -> u8 {
     }
 }
 
-fn told_usage(rt: &HostRuntime, about: &About) -> u8 {
+fn told_usage(rt: &HostRuntime, about: &About) -> u8
+    ensures { result ≡ 1 }
+{
     tell(rt, "usage", about.usage);
     1
 }
 
-fn untold(rt: &HostRuntime, reason: io::Error) -> u8 {
+fn untold(rt: &HostRuntime, reason: io::Error) -> u8
+    ensures { result ≡ 1 }
+{
     if reason.kind() == ErrorKind::InvalidData {
         tell(rt, "arguments", "one is no text in UTF-8");
     } else {
@@ -69,7 +81,9 @@ fn untold(rt: &HostRuntime, reason: io::Error) -> u8 {
 }
 
 /// Tells that there is not enough memory.
-pub fn out_of_memory(rt: &HostRuntime) -> u8 {
+pub fn out_of_memory(rt: &HostRuntime) -> u8
+    ensures { result ≡ 1 }
+{
     tell(rt, "memory", "out of memory");
     1
 }
