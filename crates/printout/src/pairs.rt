@@ -1,6 +1,7 @@
 // Offering the pairs of a plan's file.
-ghost use Rattle.std.specs.Prelude.{◌≡◌, ◌<◌, ◌≤◌, ◌%◌, IsFalse, List as Seq, length, IfOk, OnOk};
+ghost use Rattle.std.specs.Prelude.{◌≡◌, ◌↔◌, ◌+◌, ◌<◌, ◌≤◌, ◌%◌, IsTrue, IsFalse, List as Seq, length, take, IfOk, OnOk, MatchResult};
 ghost use Rattle.sheet.specs.Sheet.{point_limit, face_limit};
+ghost use Rattle.hosts.specs.Events.{Read, Reading};
 ghost use Rattle.hosts.specs.Works.{Prints};
 ghost use Rattle.motion.specs.Rows.{delivered};
 ghost use Rattle.inspection.specs.Claims.{Findings};
@@ -14,6 +15,7 @@ ghost use Rattle.printout.specs.Phases.{PairsRan};
 ghost use Rattle.printout.specs.Progress.{Made, OffersFile};
 ghost use Rattle.printout.specs.Walks.{places, just_opened};
 ghost use Rattle.printout.specs.declared.endings.Ending.TheVariants.{Complete};
+ghost use Rattle.printout.specs.declared.plan_files.PlanFile.TheVariants.{Pairs};
 
 use crate::endings::Ending;
 use crate::offering::offer_pairs;
@@ -50,12 +52,36 @@ pub(crate) fn offer_file<F: Filter, H: Host<File = PlanFile>>(
     ensures filter { inspection.new.filter ≡ inspection.old.filter }
 {
     loop {
-        let n = host.fill(PlanFile::Pairs, pairs)?;
-        offer_pairs(inspection, points, faces, vf, ee, &pairs[..n], host)?;
-        if n < pairs.len() {
+        let piece = read_piece(pairs, host)?;
+        let came = &pairs[..piece.len];
+        offer_pairs(inspection, points, faces, vf, ee, came, host)?;
+        if piece.is_last {
             return Ok(());
         }
     }
+}
+
+/// What came of the file at once: so many bytes, with which it may end.
+#[derive(Clone, Copy)]
+struct Piece {
+    len: usize,
+    is_last: bool,
+}
+
+/// Reads on in the pairs. A piece that does not fill the buffer is the last.
+fn read_piece<H: Host<File = PlanFile>>(pairs: &mut [u8], host: &mut H) -> Result<Piece, H::Error>
+    ensures read { MatchResult result
+        (λ p. H.does host.old (Read Pairs (length pairs.old) (take p.len pairs.new)) host.new)
+        (λ e. H.fails host.old (Reading Pairs) e host.new) }
+    ensures few { IfOk result (λ p. p.len ≤ length pairs.old) }
+    ensures last { IfOk result (λ p. IsTrue p.is_last ↔ (p.len < length pairs.old)) }
+    ensures less { IfOk result (λ p. H.most host.new + p.len ≤ H.most host.old) }
+{
+    let len = host.fill(PlanFile::Pairs, pairs)?;
+    Ok(Piece {
+        len,
+        is_last: len < pairs.len(),
+    })
 }
 
 /// The run after the step: the pairs are offered in their order, and then the report is printed.

@@ -4,13 +4,13 @@ use Rattle.printout.proofs.Files.{Going}
 use Rattle.printout.proofs.pairs.offer_file.Given as goal
 
 -- the pieces so far were full, and their pairs are offered
-abbrev pub invariant-loop-n : goal.invariant-loop-n
-invariant-loop-n g l = record {
+abbrev pub invariant-loop-piece : goal.invariant-loop-piece
+invariant-loop-piece g l = record {
   going : Going g.H.Host.does g.H.Host.fails (g.F.Filter.struck l.fn.inspection.filter) l.points l.faces
       (state_of l.fn.inspection l.fn.vf l.fn.ee) (state_of l.inspection l.vf l.ee) l.fn.host l.host;
   filter : l.inspection.filter ≡ l.fn.inspection.filter;
   room : length l.pairs ≡ length l.fn.pairs;
 }
 
-abbrev pub decreases-loop-n : goal.decreases-loop-n
-decreases-loop-n g l = g.H.Host.most l.host
+abbrev pub decreases-loop-piece : goal.decreases-loop-piece
+decreases-loop-piece g l = g.H.Host.most l.host
