@@ -150,9 +150,10 @@ impl<F: Copy + PartialEq> Disk<F> for Machine<F> {
     }
 
     fn print(&mut self, bytes: &[u8]) -> Result<(), Failure<F>> {
-        if !self.held.has_room(bytes.len()) {
-            self.progress.wipe();
+        if self.held.hold(bytes) {
+            return Ok(());
         }
+        self.progress.wipe();
         let done = self.held.print(&mut io::writer(&self.rt), bytes);
         at(Place::Output, done)
     }

@@ -1,5 +1,5 @@
 // Printing through a buffer.
-ghost use Rattle.std.specs.Prelude.{◌≡◌, ◌-◌, ◌≤◌, ◌↔◌, [], IsTrue, OnOk, vec_len};
+ghost use Rattle.std.specs.Prelude.{◌≡◌, ◌++◌, [], if◌then◌else◌, OnOk};
 ghost use Rattle.std.specs.Io.KnownBytes.{Appends, append_known};
 
 use std::alloc::{AllocError, Global};
@@ -22,27 +22,29 @@ impl Held {
         })
     }
 
+    /// Holds these bytes back too, if there is room: whether it does.
+    pub(crate) fn hold(&mut self, bytes: &[u8]) -> bool
+        ensures { self.new.bytes.items
+            ≡ (if result then self.old.bytes.items ++ bytes.now else self.old.bytes.items) }
+    {
+        let room = ROOM.saturating_sub(self.bytes.len());
+        bytes.len() <= room && self.bytes.extend_from_slice(bytes).is_ok()
+    }
+
     /// Holds these bytes back too, or lets all out where there is no room.
     pub(crate) fn print<W: Write>(&mut self, out: &mut W, bytes: &[u8]) -> io::Result<()>
         ensures { OnOk result
             (Appends (append_known (W.contents out.old) self.old.bytes.items)
             (append_known (W.contents out.new) self.new.bytes.items) bytes.now) }
     {
-        if !self.has_room(bytes.len()) {
-            self.flush(out)?;
+        if self.hold(bytes) {
+            return Ok(());
         }
-        if bytes.len() > ROOM {
-            return out.write_all(bytes);
+        self.flush(out)?;
+        if self.hold(bytes) {
+            return Ok(());
         }
-        self.bytes.extend_from_slice(bytes)?;
-        Ok(())
-    }
-
-    /// Whether so many more bytes can be held back.
-    pub(crate) fn has_room(&self, more: usize) -> bool
-        ensures { IsTrue result ↔ (more ≤ ROOM - vec_len self.now.bytes) }
-    {
-        more <= ROOM.saturating_sub(self.bytes.len())
+        out.write_all(bytes)
     }
 
     /// Lets all out.
