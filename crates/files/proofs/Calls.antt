@@ -1,35 +1,50 @@
 -- A work's call by the one on the disk.
-use Rattle.std.proofs.Common.{◌≡◌, ℕ, List, Some, Option, Ok, Err, Result, MatchResult, IsErrAnd, inl, inr, refl, sym, ◌∙◌, subst}
-use Rattle.hosts.specs.Events.{Event, Call}
+use Rattle.std.proofs.Common.{◌≡◌, ℕ, List, Some, Option, Ok, Err, Result, MatchResult, inl, inr, refl, sym, ap, ◌∙◌, subst}
+use Rattle.std.specs.Option.{option_map}
+use Rattle.hosts.specs.Events.{Event, Printed, Stored, Call, Printing, Storing}
 use Rattle.hosts.specs.Traces.{CutOff}
-use Rattle.files.specs.Deeds.{Deed, Flushed, Task, Flushing, FailsWithin}
+use Rattle.files.specs.Deeds.{Deed, PrintedOut, Flushed, StoredAt, Task, PrintingOut, Flushing, StoringAt, FailsWithin}
 use Rattle.files.specs.declared.placed.Placed.{Placed}
-use Rattle.files.specs.Placed.{deed_of, call_of, DoesIfAny, FailsIfAny, DoesPlaced, FailsPlaced, TriesToFlush, Runs, at_its_end}
+use Rattle.files.specs.Placed.{deed_of, call_of, DoesIfAny, FailsIfAny, DoesPlaced, FailsPlaced, TriesToFlush, Runs, StopsEarly, at_work, at_its_end}
 
 module _ {D P F E : Type 0} (path : P → F → List ℕ) (target : P → Option (List ℕ)) (does : D → Deed F → D → Type 0) (fails : D → Task F → E → D → Type 0) where
-  pub call_placed : {X : Type 0} (s : Placed D P) (t : D) (event : List ℕ → Event F) (call : Call F) (deed : List ℕ → Deed F) (task : Task F) (given bytes : List ℕ) (r : Result X E)
+  call_placed : {X : Type 0} (s t : Placed D P) (event : List ℕ → Event F) (call : Call F) (deed : List ℕ → Deed F) (task : Task F) (given bytes : List ℕ) (r : Result X E)
       → ((bs : List ℕ) → deed_of (path s.paths) (target s.paths) (event bs) ≡ Some (deed bs)) → call_of (path s.paths) (target s.paths) call ≡ Some task
-      → MatchResult r (λ x. does s.disk (deed given) t) (λ e. CutOff does fails s.disk deed task given e t) → given ≡ bytes
-      → MatchResult r (λ x. DoesPlaced path target does s (event bytes) (record { disk = t; paths = s.paths }))
-      (λ e. CutOff (DoesPlaced path target does) (FailsPlaced path target fails) s event call bytes e (record { disk = t; paths = s.paths }))
-  call_placed s t event call deed task given bytes (Ok x) is_deed is_task did same =
-      record { paths = refl; done = subst (λ d. DoesIfAny path target does s.disk d t) (sym (is_deed bytes)) (subst (λ bs. does s.disk (deed bs) t) same did) }
-  call_placed s t event call deed task given bytes (Err e) is_deed is_task cut same =
+      → t.paths ≡ s.paths → given ≡ bytes → MatchResult r (λ x. does s.disk (deed given) t.disk) (λ e. CutOff does fails s.disk deed task given e t.disk)
+      → MatchResult r (λ x. DoesPlaced path target does s (event bytes) t) (λ e. CutOff (DoesPlaced path target does) (FailsPlaced path target fails) s event call bytes e t)
+  call_placed s t event call deed task given bytes (Ok x) is_deed is_task paths same did =
+      record { paths = paths; done = subst (λ d. DoesIfAny path target does s.disk d t.disk) (sym (is_deed bytes)) (subst (λ bs. does s.disk (deed bs) t.disk) same did) }
+  call_placed s t event call deed task given bytes (Err e) is_deed is_task paths same cut =
       record {
         front = cut.front;
         rest = cut.rest;
         parts = sym same ∙ cut.parts;
         before = record { disk = cut.before; paths = s.paths };
         did = record { paths = refl; done = subst (λ d. DoesIfAny path target does s.disk d cut.before) (sym (is_deed cut.front)) cut.did };
-        failed = record { paths = refl; failed = subst (λ k. FailsIfAny path target fails cut.before k e t) (sym is_task) cut.failed };
+        failed = record { paths = paths; failed = subst (λ k. FailsIfAny path target fails cut.before k e t.disk) (sym is_task) cut.failed };
       }
 
+  pub print_placed : {X : Type 0} (s t : Placed D P) (given bytes : List ℕ) (r : Result X E)
+      → t.paths ≡ s.paths → given ≡ bytes → MatchResult r (λ x. does s.disk (PrintedOut given) t.disk) (λ e. CutOff does fails s.disk PrintedOut PrintingOut given e t.disk)
+      → MatchResult r (λ x. DoesPlaced path target does s (Printed bytes) t) (λ e. CutOff (DoesPlaced path target does) (FailsPlaced path target fails) s Printed Printing bytes e t)
+  print_placed s t given bytes r = call_placed s t Printed Printing PrintedOut PrintingOut given bytes r (λ bs. refl) refl
+
+  pub store_placed : {X : Type 0} (s t : Placed D P) (at given bytes : List ℕ) (r : Result X E) → t.paths ≡ s.paths → target s.paths ≡ Some at → given ≡ bytes
+      → MatchResult r (λ x. does s.disk (StoredAt at given) t.disk) (λ e. CutOff does fails s.disk (StoredAt at) (StoringAt at) given e t.disk)
+      → MatchResult r (λ x. DoesPlaced path target does s (Stored bytes) t) (λ e. CutOff (DoesPlaced path target does) (FailsPlaced path target fails) s Stored Storing bytes e t)
+  store_placed s t at given bytes r paths is =
+      call_placed s t Stored Storing (StoredAt at) (StoringAt at) given bytes r (λ bs. ap (option_map (λ p. StoredAt p bs)) is) (ap (option_map StoringAt) is) paths
+
 module _ {D P F E X : Type 0} (does : D → Deed F → D → Type 0) (fails : D → Task F → E → D → Type 0) (Works : Placed D P → Result X E → Placed D P → Type 0) (lasts : P → X → List (Deed F)) where
-  pub tried : {Y : Type 0} (s t : D) (r : Result Y E) → MatchResult r (λ x. does s Flushed t) (λ e. fails s Flushing e t) → TriesToFlush does fails Works lasts s t
+  tried : {Y : Type 0} (s t : D) (r : Result Y E) → MatchResult r (λ x. does s Flushed t) (λ e. fails s Flushing e t) → TriesToFlush does fails Works lasts s t
   tried s t (Ok x) did = inl did
   tried s t (Err e) failed = inr (e, failed)
 
+  -- a work that fails, and then what is held back is let out
+  pub stops_at_work : {Y : Type 0} (s m t : Placed D P) (e : E) (r : Result Y E) → Works s (Err e) m
+      → MatchResult r (λ x. does m.disk Flushed t.disk) (λ e. fails m.disk Flushing e t.disk) → StopsEarly does fails Works lasts s e t
+  stops_at_work s m t e r works flushed = at_work m works (tried m.disk t.disk r flushed)
+
   -- an ending that fails, as the exit of a `?` answers it
-  pub stops_at_its_end : (s m t : Placed D P) (x : X) (e : E) (r : Result X E) → IsErrAnd r (λ y. y ≡ e) → Works s (Ok x) m → FailsWithin does fails (lasts m.paths x) m.disk e t.disk → Runs does fails Works lasts s r t
-  stops_at_its_end s m t x e (Ok y) is works failed = absurd is
-  stops_at_its_end s m t x e (Err y) is works failed = at_its_end m x works (subst (λ z. FailsWithin does fails (lasts m.paths x) m.disk z t.disk) (sym is) failed)
+  pub stops_at_its_end : (s m t : Placed D P) (x : X) (e : E) (r : Result X E) → Works s (Ok x) m → FailsWithin does fails (lasts m.paths x) m.disk e t.disk → r ≡ Err e → Runs does fails Works lasts s r t
+  stops_at_its_end s m t x e r works failed is = subst (λ r. Runs does fails Works lasts s r t) (sym is) (at_its_end m x works failed)

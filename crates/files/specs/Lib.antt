@@ -1,2 +1,3 @@
 pub mod Deeds
+pub mod Machines
 pub mod Placed

@@ -1,5 +1,5 @@
 -- A work whose files are placed on a disk, each at a path, and what it stores at a target, if any.
-use Rattle.std.specs.Prelude.{◌≡◌, ℕ, List, [], ◌∷◌, ◌⊎◌, Some, None, Option, Ok, Err, Result}
+use Rattle.std.specs.Prelude.{◌≡◌, ℕ, List, ◌⊎◌, Some, None, Option, Ok, Err, Result}
 use Rattle.std.specs.Option.{option_map}
 use Rattle.hosts.specs.Events.{Event, Read, Printed, Stored, Call, Reading, Printing, Storing}
 use Rattle.files.specs.Deeds.{Deed, ReadAt, PrintedOut, Flushed, StoredAt, Task, ReadingAt, PrintingOut, Flushing, StoringAt, DoesAll}

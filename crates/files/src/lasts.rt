@@ -5,6 +5,7 @@ ghost use Rattle.files.specs.Deeds.{Flushed, Kept, DoesAll};
 use crate::disks::Disk;
 
 /// Lets out what was printed, and then keeps what was stored for a path.
+#[tactic(auto, using(crate::proofs::Done::fails_first))]
 pub fn flush_then_keep<F, D: Disk<F>>(disk: &mut D, path: &str) -> Result<(), D::Error>
     ensures { DoesAll D.does D.fails (Flushed ∷ Kept path.now ∷ []) disk.old result disk.new }
 {
@@ -13,6 +14,7 @@ pub fn flush_then_keep<F, D: Disk<F>>(disk: &mut D, path: &str) -> Result<(), D:
 }
 
 /// Keeps what was stored for a path, and then lets out what was printed.
+#[tactic(auto, using(crate::proofs::Done::fails_first))]
 pub fn keep_then_flush<F, D: Disk<F>>(disk: &mut D, path: &str) -> Result<(), D::Error>
     ensures { DoesAll D.does D.fails (Kept path.now ∷ Flushed ∷ []) disk.old result disk.new }
 {
@@ -21,6 +23,7 @@ pub fn keep_then_flush<F, D: Disk<F>>(disk: &mut D, path: &str) -> Result<(), D:
 }
 
 /// Lets out what was printed, and no more.
+#[tactic(auto, using(crate::proofs::Done::does_one))]
 pub fn flush_alone<F, D: Disk<F>>(disk: &mut D) -> Result<(), D::Error>
     ensures { DoesAll D.does D.fails (Flushed ∷ []) disk.old result disk.new }
 {

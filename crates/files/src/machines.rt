@@ -1,5 +1,5 @@
 // The disk and the terminal of the system. What it does stands in no contract: it is what all others rest on.
-ghost use Rattle.std.specs.Prelude.{◌≡◌, ◌+◌, ◌≤◌, IfOk, length};
+ghost use Rattle.std.specs.Prelude.{◌≡◌, ◌+◌, ◌-◌, ◌^◌, ◌≤◌, IfOk, length};
 
 use crate::beside::Beside;
 use crate::disks::Disk;
@@ -34,9 +34,13 @@ struct Opened<F> {
 }
 
 impl<F: Copy + PartialEq> Machine<F> {
+    ghost use Rattle.files.specs.Machines.{left_to_read};
+
     /// A machine that tells on a terminal how far it is in a file. Nothing is opened where there is
     /// no standard output, so that no file takes its place.
-    pub fn new(rt: HostRuntime, watched: Option<Watched<F>>) -> Result<Machine<F>, Failure<F>> {
+    pub fn new(rt: HostRuntime, watched: Option<Watched<F>>) -> Result<Machine<F>, Failure<F>>
+        ensures { IfOk result (λ machine. left_to_read machine ≡ 2 ^ 64 - 1) }
+    {
         at(Place::Output, rt.write_some(b""))?;
         let held = at(
             Place::Memory,
@@ -136,13 +140,15 @@ impl<F: Copy + PartialEq> Machine<F> {
 }
 
 impl<F: Copy + PartialEq> Disk<F> for Machine<F> {
+    ghost use Rattle.files.specs.Machines.{left_to_read};
+
     type Error = Failure<F>;
 
     ghost does = { λ s deed t. Unit {0} };
 
     ghost fails = { λ s task e t. Unit {0} };
 
-    ghost most = { λ s. s.left };
+    ghost most = { left_to_read };
 
     fn fill(&mut self, file: F, path: &str, buf: &mut [u8]) -> Result<usize, Failure<F>> {
         let done = self.read_on(file, path, buf);

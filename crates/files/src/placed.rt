@@ -50,6 +50,7 @@ where
         self.disk.fill(file, self.paths.path(file), buf)
     }
 
+    #[tactic(auto, using(crate::proofs::Calls::print_placed))]
     fn print(&mut self, bytes: &[u8]) -> Result<(), D::Error> {
         self.disk.print(bytes)
     }

@@ -6,6 +6,7 @@ use std::io;
 use std::io::{ErrorKind, Read};
 
 /// Reads until the buffer is full or the reader ends: how many bytes came.
+#[tactic(auto, using(crate::proofs::Pieces::came_on, crate::proofs::Pieces::came_no_more))]
 pub(crate) fn fill_from<R: Read>(reader: &mut R, buf: &mut [u8]) -> io::Result<usize>
     ensures few { IfOk result (λ n. n ≤ length buf.old) }
     ensures came { IfOk result (λ n.

@@ -48,6 +48,7 @@ module _ (es : List (Event FrameFile)) (file : FrameFile) (n : ℕ) (bytes : Lis
 
 module _ (m o : Memory) (n : ℕ) (bytes : List ℕ) (kept : o.kept.now ≡ m.kept.now) (line : o.line.now ≡ m.line.now) (same_kept : o.kept.ghost_name ≡ m.kept.ghost_name) (same_line : o.line.ghost_name ≡ m.line.ghost_name) where
   pub start_read : bytes ≡ take n m.start.now → o.start.now ≡ drop n m.start.now → o.end.now ≡ m.end.now → HoldsMore m (Read Start n bytes) o
+  unfolding HoldsMore
   start_read front left same f first_kept first_line es h =
       record {
         same_kept = same_kept ∙ h.same_kept;
@@ -63,6 +64,7 @@ module _ (m o : Memory) (n : ℕ) (bytes : List ℕ) (kept : o.kept.now ≡ m.ke
       }
 
   pub end_read : bytes ≡ take n m.end.now → o.end.now ≡ drop n m.end.now → o.start.now ≡ m.start.now → HoldsMore m (Read End n bytes) o
+  unfolding HoldsMore
   end_read front left same f first_kept first_line es h =
       record {
         same_kept = same_kept ∙ h.same_kept;
@@ -95,6 +97,7 @@ module _ (m o : Memory) (bytes : List ℕ) (start : o.start ≡ m.start) (end : 
   pub line_printed : (r : Result Unit Infallible) → o.kept.now ≡ m.kept.now
       → MatchResult r (λ x. ShowsMore m.line.now (Printed bytes) o.line.now) (λ e. CutOff ShowsMore PageNeverFails m.line.now Printed Printing bytes e o.line.now)
       → MatchResult r (λ x. HoldsMore m (Printed bytes) o) (λ e. CutOff HoldsMore NeverFails m Printed Printing bytes e o)
+  unfolding HoldsMore
   line_printed (Err e) kept cut = absurd cut.failed
   line_printed (Ok x) kept shown = λ f first_kept first_line es h.
       let e : Event FrameFile = Printed bytes in
@@ -111,6 +114,7 @@ module _ (m o : Memory) (bytes : List ℕ) (start : o.start ≡ m.start) (end : 
   pub record_kept : (r : Result Unit Infallible) → o.line.now ≡ m.line.now
       → MatchResult r (λ x. ShowsMore m.kept.now (Printed bytes) o.kept.now) (λ e. CutOff ShowsMore PageNeverFails m.kept.now Printed Printing bytes e o.kept.now)
       → MatchResult r (λ x. HoldsMore m (Stored bytes) o) (λ e. CutOff HoldsMore NeverFails m Stored Storing bytes e o)
+  unfolding HoldsMore
   record_kept (Err e) line cut = absurd cut.failed
   record_kept (Ok x) line shown = λ f first_kept first_line es h.
       let e : Event FrameFile = Stored bytes in

@@ -39,6 +39,7 @@ module _ (m : Memory) where
   at_first = record { came = λ file. refl; start_left = refl; end_left = refl; stored = λ lent shown. shown; printed = λ lent shown. shown; same_kept = refl; same_line = refl }
 
   holds : (n : Memory) (es : List (Event FrameFile)) → Went HoldsMore m es n → Holds (frames_in m) m.kept m.line es n
+  unfolding HoldsMore
   holds n es nothing = at_first
   holds n es (next {t = t} {es = before} e w d) = d (frames_in m) m.kept m.line before (holds t before w)
 

@@ -27,7 +27,7 @@ pub record Holds (f : Frames) (kept line : MutBor Page) (es : List (Event FrameF
   pub same_line : m.line.ghost_name ≡ line.ghost_name
 
 -- whatever was done before
-abbrev pub HoldsMore : Memory → Event FrameFile → Memory → Type 0
+unfoldable pub HoldsMore : Memory → Event FrameFile → Memory → Type 0
 HoldsMore m e n =
     (f : Frames) (kept line : MutBor Page) (es : List (Event FrameFile))
     → Holds f kept line es m → Holds f kept line (es ++ (e ∷ [])) n

@@ -3,8 +3,10 @@ use Rattle.std.specs.Prelude.{ℕ, List, [], ◌∷◌, ◌++◌, length, codes,
 use Rattle.hosts.specs.Events.{Event, Printed, Stored}
 use Rattle.sheet.specs.Notices.{fault_line}
 use Rattle.sheet.specs.declared.notices.Notice.{Notice}
+use Rattle.sheet.specs.declared.drafts.Draft.{Draft}
+use Rattle.sheet.specs.declared.rows.Face.{Face}
 use Rattle.sheet.specs.declared.rows.Point.{Point}
-use Rattle.step.specs.Frames.{moving_in}
+use Rattle.step.specs.Frames.{difference_of, ending_at, moving_in}
 use Rattle.step.specs.Record.{record_of}
 use Rattle.step.specs.declared.frames.Difference.{Difference}
 use Rattle.frames.specs.Frames.{Frames, frame_fault, difference_between, step_between}
@@ -37,6 +39,11 @@ recorded ps =
       line = step_line (length ps) (moving_in ps) (length (record_of ps));
       answer = Recorded;
     }
+
+-- of two frames without a fault: drafts, points and faces
+unfoldable pub outcome_between : Draft → List Point → List Face → Draft → List Point → List Face → Outcome
+outcome_between d ps fs e qs gs =
+    unless_different (difference_of d fs e gs) (recorded (ending_at ps qs))
 
 abbrev pub outcome : Frames → Outcome
 outcome f =

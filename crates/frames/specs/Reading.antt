@@ -1,5 +1,6 @@
 -- What comes of a frame's text of which the first bytes came.
 use Rattle.std.specs.Prelude.{◌≡◌, ℕ, ◌+◌, List, take, Some, None, Ok, Err, Result}
+use Rattle.hosts.specs.Events.{Event, Read}
 use Rattle.sheet.specs.Faults.{notice_of_sheet}
 use Rattle.sheet.specs.IsSheet.{IsSheet}
 use Rattle.sheet.specs.Sheet.{text_limit, draft_of}
@@ -8,6 +9,7 @@ use Rattle.sheet.specs.declared.faults.SheetFault.{SheetFault}
 use Rattle.sheet.specs.declared.rows.Face.{Face}
 use Rattle.sheet.specs.declared.rows.Point.{Point}
 use Rattle.frames.specs.Frames.{frame_fault, points_of, faces_of}
+use Rattle.frames.specs.declared.frame_files.FrameFile.{FrameFile}
 
 -- tables whose first rows are the frame of a text
 pub record IsFrame (text : List ℕ) (ps : List Point) (fs : List Face) (d : Draft) : Type 0 where
@@ -25,3 +27,11 @@ Says text ps fs (Err fault) = frame_fault text ≡ Some (notice_of_sheet fault)
 abbrev pub ReadsFrame : List ℕ → List Point → List Face → Result Draft SheetFault → Type 0
 ReadsFrame came ps fs read =
     (text : List ℕ) → came ≡ take (text_limit + 1) text → Says text ps fs read
+
+-- the file was read once, up to one byte past the longest text, and what came says so
+pub record FrameRead {S : Type 0} (does : S → Event FrameFile → S → Type 0) (file : FrameFile)
+    (s : S) (ps : List Point) (fs : List Face) (read : Result Draft SheetFault) (t : S)
+    : Type 0 where
+  pub came : List ℕ
+  pub did : does s (Read file (text_limit + 1) came) t
+  pub says : ReadsFrame came ps fs read

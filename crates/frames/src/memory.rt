@@ -1,5 +1,5 @@
 // Two frames in memory.
-ghost use Rattle.std.specs.Prelude.{◌≡◌, ◌+◌, ◌-◌, ◌^◌, [], length, take, drop, min, IfSome, unwrap_or};
+ghost use Rattle.std.specs.Prelude.{◌≡◌, ◌+◌, ◌-◌, ◌^◌, ◌≤◌, [], length, take, drop, min, IfSome, unwrap_or};
 ghost use Rattle.hosts.specs.Pages.{onto_page, Filled};
 ghost use Rattle.step.specs.Steps.{Step};
 ghost use Rattle.frames.specs.Frames.{frames, points_of, step_between};
@@ -42,28 +42,35 @@ impl Host for Memory<'_, '_, '_, '_, '_, '_> {
 
     ghost most = { λ m. length m.start.now + length m.end.now };
 
+    #[tactic(auto, using(crate::proofs::Kept::start_read, crate::proofs::Kept::end_read))]
     fn fill(&mut self, file: FrameFile, buf: &mut [u8]) -> Result<usize, Infallible> {
         match file {
-            FrameFile::Start => {
-                let n = copy_front(self.start, buf);
-                self.start = &self.start[n..];
-                Ok(n)
-            }
-            FrameFile::End => {
-                let n = copy_front(self.end, buf);
-                self.end = &self.end[n..];
-                Ok(n)
-            }
+            FrameFile::Start => Ok(read_on(&mut self.start, buf)),
+            FrameFile::End => Ok(read_on(&mut self.end, buf)),
         }
     }
 
+    #[tactic(auto, using(crate::proofs::Kept::line_printed))]
     fn print(&mut self, bytes: &[u8]) -> Result<(), Infallible> {
         self.line.print(bytes)
     }
 
+    #[tactic(auto, using(crate::proofs::Kept::record_kept))]
     fn store(&mut self, bytes: &[u8]) -> Result<(), Infallible> {
         self.kept.print(bytes)
     }
+}
+
+/// Reads on in a text until the buffer is full or the text ends: how many bytes came.
+fn read_on(text: &mut &[u8], buf: &mut [u8]) -> usize
+    ensures few { result ≤ length buf.old }
+    ensures less { length text.new.now + result ≤ length text.old.now }
+    ensures came { take result buf.new ≡ take (length buf.old) text.old.now }
+    ensures left { text.new.now ≡ drop (length buf.old) text.old.now }
+{
+    let n = copy_front(text, buf);
+    *text = &text[n..];
+    n
 }
 
 /// Records the step between two frames in memory: puts the record and the line into the front of

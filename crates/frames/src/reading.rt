@@ -1,8 +1,8 @@
 // Reading a frame.
-ghost use Rattle.std.specs.Prelude.{◌≡◌, ◌+◌, ◌≤◌, length, take, ℕ, List, MatchResult, IfOk};
-ghost use Rattle.hosts.specs.Events.{Read, Reading};
+ghost use Rattle.std.specs.Prelude.{◌≡◌, ◌+◌, ◌≤◌, length, MatchResult, IfOk};
+ghost use Rattle.hosts.specs.Events.{Reading};
 ghost use Rattle.sheet.specs.Sheet.{text_limit, point_limit, face_limit};
-ghost use Rattle.frames.specs.Reading.{ReadsFrame};
+ghost use Rattle.frames.specs.Reading.{FrameRead};
 
 use crate::frame_files::FrameFile;
 use hosts::Host;
@@ -20,8 +20,7 @@ pub(crate) fn read_frame<H: Host<File = FrameFile>>(
     requires points { length points.old ≡ point_limit }
     requires faces { length faces.old ≡ face_limit }
     ensures read { MatchResult result
-        (λ read. (came : List ℕ) × (H.does host.old (Read file (text_limit + 1) came) host.new)
-        × ReadsFrame came points.new faces.new read)
+        (λ read. FrameRead H.does file host.old points.new faces.new read host.new)
         (λ e. H.fails host.old (Reading file) e host.new) }
     ensures point_count { IfOk result (λ read. IfOk read (λ d. d.points ≤ length points.new)) }
     ensures face_count { IfOk result (λ read. IfOk read (λ d. d.faces ≤ length faces.new)) }

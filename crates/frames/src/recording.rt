@@ -2,10 +2,9 @@
 ghost use Rattle.std.specs.Prelude.{◌≡◌, ◌≤◌, length, take};
 ghost use Rattle.hosts.specs.Writing.{Writes};
 ghost use Rattle.sheet.specs.Sheet.{point_limit};
-ghost use Rattle.step.specs.Frames.{difference_of, ending_at};
 ghost use Rattle.step.specs.Limit.{record_limit};
 ghost use Rattle.step.specs.Record.{record_of};
-ghost use Rattle.frames.specs.Outcomes.{unless_different, recorded, writes_of};
+ghost use Rattle.frames.specs.Outcomes.{outcome_between, recorded, writes_of};
 ghost use Rattle.frames.specs.Works.{Records};
 
 use crate::frame_files::{FrameFile, Recording};
@@ -19,6 +18,7 @@ use step::{compare_frames, end_at, write};
 
 /// Reads two frames and records the step between them: stores its record, and prints the line that
 /// tells it. Where a frame has a fault, or they differ, it prints the line that tells this instead.
+#[tactic(auto, using(crate::proofs::Paths::first_not_read, crate::proofs::Paths::first_faulty, crate::proofs::Paths::second_not_read, crate::proofs::Paths::second_faulty, crate::proofs::Paths::both_read))]
 pub fn record_step<H: Host<File = FrameFile>>(
     tables: &mut Tables,
     host: &mut H,
@@ -54,6 +54,7 @@ pub fn record_step<H: Host<File = FrameFile>>(
 }
 
 /// Stores and tells the record of the step between two frames, or tells how they differ.
+#[tactic(auto, unfolding(crate::specs::Outcomes::outcome_between))]
 fn record_between<H: Host>(
     start: &Draft,
     points: &mut [Point],
@@ -67,9 +68,8 @@ fn record_between<H: Host>(
     requires points { length points.old ≡ start.now.points }
     requires few { length points.old ≤ point_limit }
     requires room { length buffer.old ≡ record_limit }
-    ensures { let rows = ending_at points.old end_points.now in
-        let difference = difference_of start.now faces.now end.now end_faces.now in
-        let o = unless_different difference (recorded rows) in
+    ensures { let between = outcome_between start.now points.old faces.now in
+        let o = between end.now end_points.now end_faces.now in
         Writes H.does H.fails (writes_of o) o.answer host.old result host.new }
 {
     if let Some(difference) = compare_frames(start, faces, end, end_faces) {

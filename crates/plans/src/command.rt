@@ -1,4 +1,6 @@
 // The command line of an inspection.
+ghost use Rattle.std.specs.Prelude.{◌≤◌};
+
 use crate::programs::inspect_folder;
 use commands::{About, Given, given};
 
@@ -43,7 +45,9 @@ const ABOUT: About = About {
 };
 
 /// Does what the command line asks for: the exit status.
-pub fn inspect_command(rt: &HostRuntime) -> u8 {
+pub fn inspect_command(rt: &HostRuntime) -> u8
+    ensures { result ≤ 1 }
+{
     match given(rt, &ABOUT) {
         Ok(Given { places, refused }) => {
             let folder = places.first().map_or(".", |place| place.as_str());

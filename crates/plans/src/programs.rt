@@ -1,4 +1,6 @@
 // An inspection by the system.
+ghost use Rattle.std.specs.Prelude.{◌≤◌};
+
 use crate::paths::Paths;
 use crate::runs::{inspect_placed, status};
 use files::{Machine, Placed, Watched, tell};
@@ -13,7 +15,9 @@ const PAIRS: Watched<PlanFile> = Watched {
 
 /// Inspects the plan in a folder, and stores its refused pairs where a file is named for them: the
 /// exit status. What stops the run is told.
-pub fn inspect_folder(rt: &HostRuntime, folder: &str, refused: Option<String>) -> u8 {
+pub fn inspect_folder(rt: &HostRuntime, folder: &str, refused: Option<String>) -> u8
+    ensures { result ≤ 1 }
+{
     let Ok(paths) = Paths::in_folder(rt.alloc(), folder, refused) else {
         tell(rt, "memory", "out of memory");
         return 1;

@@ -9,6 +9,7 @@ use printout::{Ending, PlanFile, Tables, inspect_plan};
 
 /// Inspects the plan whose files are placed on a disk. At the end, or before an error is answered,
 /// all that was printed goes out; then the refused pairs that were stored are kept.
+#[tactic(auto, using(crate::proofs::Stopping::stops_at_its_end))]
 pub fn inspect_placed<D: Disk<PlanFile>>(
     tables: &mut Tables,
     plan: &mut Placed<D, Paths>,

@@ -1,4 +1,6 @@
 // A recording by the system.
+ghost use Rattle.std.specs.Prelude.{◌≤◌};
+
 use crate::paths::Paths;
 use crate::runs::{record_placed, status};
 use files::{Machine, Placed, Places, tell};
@@ -6,7 +8,9 @@ use frames::{Recording, Tables};
 
 /// Records the step between two frames: the exit status. What stops the run is told, and the frame
 /// that has a fault.
-pub fn record_frames(rt: &HostRuntime, paths: Paths) -> u8 {
+pub fn record_frames(rt: &HostRuntime, paths: Paths) -> u8
+    ensures { result ≤ 1 }
+{
     let disk = match Machine::new(*rt, None) {
         Ok(disk) => disk,
         Err(failure) => {

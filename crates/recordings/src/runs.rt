@@ -9,6 +9,7 @@ use frames::{FrameFile, Recording, Tables, record_step};
 
 /// Records the step between two frames that are placed on a disk. A record that was stored is kept
 /// before the line that tells it goes out.
+#[tactic(auto, using(crate::proofs::Stopping::stops_at_its_end))]
 pub fn record_placed<D: Disk<FrameFile>>(
     tables: &mut Tables,
     frames: &mut Placed<D, Paths>,
