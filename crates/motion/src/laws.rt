@@ -10,8 +10,8 @@ ghost use Rattle.motion.specs.Cases.{values, worked_tests, Cases};
 
 use crate::shapes::Controls;
 
-/// The sets of the three delivered filters keep both laws, what Plane strikes is never in one
-/// plane, and Slab's directions are the ones that its rule describes.
+/// The sets of the three delivered filters keep both laws, what Plane strikes keeps to its side and
+/// is never in one plane, and Slab's directions are the ones that its rule describes.
 ///
 /// For any set, the window is the first and the last subinterval that it lacks, and there is none
 /// exactly where it has them all (`windows`).
