@@ -1,7 +1,7 @@
 // The window at a depth.
 ghost use Rattle.std.specs.Prelude.{◌≡◌, ◌+◌, ◌^◌, ◌<◌, ◌≤◌, nat_le, if◌then◌else◌, Some, None, IfSome};
 ghost use Rattle.std.specs.Option.{option_map, option_zip};
-ghost use Rattle.motion.specs.Depths.{first_passed, last_passed, window_at};
+ghost use Rattle.motion.specs.Depths.{first_passed, last_passed, window_at, WindowMeans};
 
 use crate::depths::has_room;
 use crate::filter::Filter;
@@ -9,10 +9,15 @@ use crate::tests::Test;
 
 /// The first and the last of the 2^depth subintervals that the filter passes, or none where it
 /// strikes each; no answer where the scale and the depth pass 6 together.
+///
+/// In each subinterval before the first and after the last the features stay apart; where there is
+/// no window, they do so for the whole step (`meaning`).
 pub fn window_at<F: Filter>(filter: &F, test: &Test, depth: u8) -> Option<Option<(u8, u8)>>
-    ensures { let set = F.Filter.struck filter.now in
+    ensures answer { let set = F.Filter.struck filter.now in
         let t = test.now.shape in
         result ≡ (if nat_le (t.scale + depth) 6 then Some (window_at set depth t) else None) }
+    ensures meaning { IfSome result
+        (WindowMeans (F.Filter.struck filter.now) depth test.now.shape) }
 {
     if !has_room(test.shape.scale, depth) {
         return None;

@@ -1,5 +1,5 @@
 -- Where a moving point is on its way: r of r + p parts are left, p are past.
-use Rattle.std.proofs.Common.{◌≡◌, ℕ, ◌+◌, ◌*◌, ◌^◌, ◌≤◌, [], ◌∷◌, ℤ, pos, ◌+ℤ◌, ◌-ℤ◌, ◌*ℤ◌, nat_abs, ap, mul-le-mul_left, arith}
+use Rattle.std.proofs.Common.{◌≡◌, ℕ, ◌+◌, ◌-◌, ◌*◌, ◌^◌, ◌≤◌, [], ◌∷◌, ℤ, pos, ◌+ℤ◌, ◌-ℤ◌, ◌*ℤ◌, nat_abs, sym, ap, subst, mul-le-mul_left, arith}
 use borrow.Author.Differences.{ints}
 use Rattle.motion.specs.declared.shapes.V3.{V3}
 use Rattle.motion.specs.declared.shapes.Moving.{Moving}
@@ -46,6 +46,13 @@ module _ (k r p : ℕ) where
   pub short : (m n : Moving) → InReach k m → InReach k n → Within (8192 * 2 ^ k * (r + p)) (place (pos r) (pos p) m -ᵛ place (pos r) (pos p) n)
   short m n f g =
       within-minus (4096 * 2 ^ k * (r + p)) (8192 * 2 ^ k * (r + p)) (place (pos r) (pos p) m) (place (pos r) (pos p) n) (omega arith) (within-place m f) (within-place n g)
+
+pub within-at : (k p q : ℕ) → p ≤ q → (m : Moving) → InReach k m → Within (4096 * 2 ^ k * q) (at p q m)
+within-at k p q h m f =
+    subst (λ (n : ℕ). Within (4096 * 2 ^ k * n) (at p n m)) back (subst (Within (4096 * 2 ^ k * (q - p + p))) (sym (at-place (q - p) p m)) (within-place k (q - p) p m f))
+  where
+    back : q - p + p ≡ q
+    back = omega arith
 
 -- ---- the determinant on the way is the one of the places
 abbrev placeᵉ : E3 → E3 → E3
