@@ -1,7 +1,10 @@
-// A test within its bounds. What makes one, and its halves, stand in files of their own.
-ghost use Rattle.motion.specs.Laws.{Valid};
+// A test within its bounds, how it is made from numbers, and its halves.
+ghost use Rattle.std.specs.Prelude.{◌≡◌, ◌*◌, ◌^◌, ◌≤◌, MatchOption, nat_le, unsigned_abs};
+ghost use Rattle.motion.specs.Laws.{InReach, Valid, portion, half};
+ghost use Rattle.filters.specs.Bounds.{within, in_reach, all_in_reach};
 
-use motion::Shape;
+use crate::vectors::plus;
+use motion::{Moving, Shape, V3};
 
 /// A test within its bounds: a scale of at most 6, and no coordinate further from zero than
 /// 4,096·2^scale.
@@ -9,4 +12,116 @@ use motion::Shape;
 pub struct Test {
     pub shape: Shape,
     ghost valid: { Valid shape },
+}
+
+impl Test {
+    /// The test of these numbers; none where the scale is over 6 or a coordinate is outside
+    /// ±4,096·2^scale.
+    pub fn new(shape: Shape) -> Option<Test>
+        ensures { MatchOption result (¬ Valid shape) (λ t. t.shape ≡ shape) }
+    {
+        if !has_scale(shape.scale) {
+            return None;
+        }
+        if !all_in_reach(shape, reach(shape.scale)) {
+            return None;
+        }
+        Some(Test { shape })
+    }
+
+    /// The first half of the step, on a grid twice as fine.
+    pub(crate) fn first_half(&self) -> Test
+        requires { self.now.shape.scale ≤ 5 }
+        ensures { result.shape ≡ half 0 self.now.shape }
+    {
+        let t = self.shape;
+        let shape = Shape {
+            kind: t.kind,
+            p: first_portion(t.p),
+            a: first_portion(t.a),
+            b: first_portion(t.b),
+            c: first_portion(t.c),
+            scale: t.scale + 1,
+        };
+        Test { shape }
+    }
+
+    /// The last half.
+    pub(crate) fn last_half(&self) -> Test
+        requires { self.now.shape.scale ≤ 5 }
+        ensures { result.shape ≡ half 1 self.now.shape }
+    {
+        let t = self.shape;
+        let shape = Shape {
+            kind: t.kind,
+            p: last_portion(t.p),
+            a: last_portion(t.a),
+            b: last_portion(t.b),
+            c: last_portion(t.c),
+            scale: t.scale + 1,
+        };
+        Test { shape }
+    }
+}
+
+fn has_scale(scale: u8) -> bool
+    ensures { result ≡ nat_le scale 6 }
+{
+    scale <= 6
+}
+
+/// How far the coordinates of a test of this scale reach.
+fn reach(scale: u8) -> u64
+    requires { scale ≤ 6 }
+    ensures { result ≡ 4096 * 2 ^ scale }
+{
+    4096 << scale
+}
+
+fn all_in_reach(t: Shape, bound: u64) -> bool
+    ensures { result ≡ all_in_reach bound t }
+{
+    in_reach(t.p, bound) && in_reach(t.a, bound) && in_reach(t.b, bound) && in_reach(t.c, bound)
+}
+
+fn in_reach(m: Moving, bound: u64) -> bool
+    ensures { result ≡ in_reach bound m }
+{
+    is_within(m.start, bound) && is_within(m.end, bound)
+}
+
+fn is_within(v: V3, bound: u64) -> bool
+    ensures { result ≡ within bound v }
+{
+    is_near(v.x, bound) && is_near(v.y, bound) && is_near(v.z, bound)
+}
+
+fn is_near(x: i64, bound: u64) -> bool
+    ensures { result ≡ nat_le (unsigned_abs x) bound }
+{
+    x.unsigned_abs() <= bound
+}
+
+/// A point's way in the first half.
+#[tactic(auto, using(crate::proofs::Portions::at_start, crate::proofs::Portions::at_middle))]
+fn first_portion(m: Moving) -> Moving
+    requires { InReach 6 m }
+    ensures { result ≡ portion 1 0 m }
+{
+    Moving {
+        start: plus(m.start, m.start),
+        end: plus(m.start, m.end),
+    }
+}
+
+/// A point's way in the last half.
+#[tactic(auto, using(crate::proofs::Portions::at_middle, crate::proofs::Portions::at_end))]
+fn last_portion(m: Moving) -> Moving
+    requires { InReach 6 m }
+    ensures { result ≡ portion 1 1 m }
+{
+    Moving {
+        start: plus(m.start, m.end),
+        end: plus(m.end, m.end),
+    }
 }
