@@ -6,5 +6,4 @@ pub mod Portions
 pub mod Turns
 pub mod Inside
 pub mod Volumes
-pub mod Reached
 pub mod Passes

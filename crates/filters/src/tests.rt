@@ -1,7 +1,6 @@
 // A test within its bounds, how it is made from numbers, and its halves.
-ghost use Rattle.std.specs.Prelude.{◌≡◌, ◌*◌, ◌^◌, ◌≤◌, MatchOption, nat_le, unsigned_abs};
-ghost use Rattle.motion.specs.Laws.{InReach, Valid, portion, half};
-ghost use Rattle.filters.specs.Bounds.{within, in_reach, all_in_reach};
+ghost use Rattle.std.specs.Prelude.{◌≡◌, ◌↔◌, ◌≤◌, IsTrue, MatchOption};
+ghost use Rattle.motion.specs.Laws.{Within, InReach, Valid, portion, half};
 
 use crate::vectors::plus;
 use motion::{Moving, Shape, V3};
@@ -20,10 +19,7 @@ impl Test {
     pub fn new(shape: Shape) -> Option<Test>
         ensures { MatchOption result (¬ Valid shape) (λ t. t.shape ≡ shape) }
     {
-        if !has_scale(shape.scale) {
-            return None;
-        }
-        if !all_in_reach(shape, reach(shape.scale)) {
+        if !is_valid(shape) {
             return None;
         }
         Some(Test { shape })
@@ -64,42 +60,29 @@ impl Test {
     }
 }
 
-fn has_scale(scale: u8) -> bool
-    ensures { result ≡ nat_le scale 6 }
+fn is_valid(t: Shape) -> bool
+    ensures { IsTrue result ↔ Valid t }
 {
-    scale <= 6
+    t.scale <= 6
+        && is_in_reach(t.p, t.scale)
+        && is_in_reach(t.a, t.scale)
+        && is_in_reach(t.b, t.scale)
+        && is_in_reach(t.c, t.scale)
 }
 
-/// How far the coordinates of a test of this scale reach.
-fn reach(scale: u8) -> u64
+/// Whether a point goes no further than a test of this scale reaches.
+fn is_in_reach(m: Moving, scale: u8) -> bool
     requires { scale ≤ 6 }
-    ensures { result ≡ 4096 * 2 ^ scale }
+    ensures { IsTrue result ↔ InReach scale m }
 {
-    4096 << scale
-}
-
-fn all_in_reach(t: Shape, bound: u64) -> bool
-    ensures { result ≡ all_in_reach bound t }
-{
-    in_reach(t.p, bound) && in_reach(t.a, bound) && in_reach(t.b, bound) && in_reach(t.c, bound)
-}
-
-fn in_reach(m: Moving, bound: u64) -> bool
-    ensures { result ≡ in_reach bound m }
-{
+    let bound = 4096 << scale;
     is_within(m.start, bound) && is_within(m.end, bound)
 }
 
 fn is_within(v: V3, bound: u64) -> bool
-    ensures { result ≡ within bound v }
+    ensures { IsTrue result ↔ Within bound v }
 {
-    is_near(v.x, bound) && is_near(v.y, bound) && is_near(v.z, bound)
-}
-
-fn is_near(x: i64, bound: u64) -> bool
-    ensures { result ≡ nat_le (unsigned_abs x) bound }
-{
-    x.unsigned_abs() <= bound
+    v.x.unsigned_abs() <= bound && v.y.unsigned_abs() <= bound && v.z.unsigned_abs() <= bound
 }
 
 /// A point's way in the first half.
