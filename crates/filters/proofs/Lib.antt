@@ -2,7 +2,6 @@ pub mod Exact
 pub mod Reaches
 pub mod Extents
 pub mod Pairwise
-pub mod Portions
 pub mod Turns
 pub mod Inside
 pub mod Volumes

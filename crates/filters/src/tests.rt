@@ -86,7 +86,7 @@ fn is_within(v: V3, bound: u64) -> bool
 }
 
 /// A point's way in the first half.
-#[tactic(auto, using(crate::proofs::Portions::at_start, crate::proofs::Portions::at_middle))]
+#[tactic(auto, using(motion::proofs::Halves::at_start, motion::proofs::Halves::at_middle))]
 fn first_portion(m: Moving) -> Moving
     requires { InReach 6 m }
     ensures { result ≡ portion 1 0 m }
@@ -98,7 +98,7 @@ fn first_portion(m: Moving) -> Moving
 }
 
 /// A point's way in the last half.
-#[tactic(auto, using(crate::proofs::Portions::at_middle, crate::proofs::Portions::at_end))]
+#[tactic(auto, using(motion::proofs::Halves::at_middle, motion::proofs::Halves::at_end))]
 fn last_portion(m: Moving) -> Moving
     requires { InReach 6 m }
     ensures { result ≡ portion 1 1 m }

@@ -1,5 +1,5 @@
 -- Box keeps both laws.
-use Rattle.std.proofs.Common.{◌≡◌, ℕ, true, List, [], ◌∷◌, map, ℤ, pos, ◌+ℤ◌, ◌-ℤ◌, neg_ℤ, ◌≤ℤ◌, ◌<ℤ◌, sym, ◌∙◌, ⊎_elim, arith}
+use Rattle.std.proofs.Common.{◌≡◌, ℕ, true, List, [], ◌∷◌, map, ℤ, pos, ◌+ℤ◌, ◌-ℤ◌, neg_ℤ, ◌≤ℤ◌, ◌<ℤ◌, sym, ap, ◌∙◌, ⊎_elim, arith}
 use mathlib.Core.Path.{transport}
 use lib.Signed.{lt_z}
 use borrow.Author.Differences.{ints}
@@ -11,15 +11,16 @@ use Rattle.motion.specs.declared.shapes.Kind.{Kind}
 use Rattle.motion.specs.declared.shapes.Kind.TheVariants.{Vf, Ee}
 use Rattle.motion.specs.declared.shapes.Moving.{Moving}
 use Rattle.motion.specs.declared.shapes.Shape.{Shape}
-use Rattle.motion.specs.Vectors.{◌+ᵛ◌, ◌-ᵛ◌, ◌·ᵛ◌, dot, vector}
+use Rattle.motion.specs.Vectors.{◌+ᵛ◌, ◌-ᵛ◌, dot, vector}
 use Rattle.motion.specs.Features.{firsts, seconds, first, second}
-use Rattle.motion.specs.Laws.{Valid, Within, Apart, Lawful, at, after, portion, half}
+use Rattle.motion.specs.Laws.{Valid, Within, Apart, Lawful, after, portion, half}
 use Rattle.motion.specs.Box.{greatest, least, coordinates, under, parted_on, box_set}
-use Rattle.motion.proofs.Ring.{Exp, var, con, ◌⊕◌, ◌⊗◌, ◌⊖◌, ring}
-use Rattle.motion.proofs.Expressions.{◌+ᵉ◌, ◌-ᵉ◌, ◌·ᵉ◌, dotᵉ, vars, put}
+use Rattle.motion.proofs.Ring.{◌⊖◌, ring}
+use Rattle.motion.proofs.Expressions.{◌-ᵉ◌, dotᵉ, vars, put}
 use Rattle.motion.proofs.Members.{Each, each-map}
 use Rattle.motion.proofs.Separating.{Beyonds, beyonds-apart, opposite, opposite-dot, opposite-within}
-use Rattle.motion.proofs.SlabLaws.{ones-of, others-of}
+use Rattle.motion.proofs.Halves.{at_start, at_middle, at_end}
+use Rattle.motion.proofs.SlabLaws.{dot-sum, ones-of, others-of}
 use Rattle.motion.proofs.RowLaws.{row-lawful}
 
 -- an axis is the product with a short direction
@@ -29,46 +30,21 @@ pub record Axis (axis : V3 → ℤ) : Type 0 where
   pub product : (v : V3) → dot way v ≡ axis v
 
 -- ---- products with a direction
-abbrev oneᵉ : Exp
-oneᵉ = con (pos 1)
-
-abbrev noneᵉ : Exp
-noneᵉ = con (pos 0)
-
 product-x : (v : V3) → dot (vector (pos 1) (pos 0) (pos 0)) v ≡ v.x
 unfolding dot
-product-x v = ring (put v []) (oneᵉ ⊗ var 0 ⊕ noneᵉ ⊗ var 1 ⊕ noneᵉ ⊗ var 2) (var 0) tt
+product-x v = omega (arith, ints)
 
 product-y : (v : V3) → dot (vector (pos 0) (pos 1) (pos 0)) v ≡ v.y
 unfolding dot
-product-y v = ring (put v []) (noneᵉ ⊗ var 0 ⊕ oneᵉ ⊗ var 1 ⊕ noneᵉ ⊗ var 2) (var 1) tt
+product-y v = omega (arith, ints)
 
 product-z : (v : V3) → dot (vector (pos 0) (pos 0) (pos 1)) v ≡ v.z
 unfolding dot
-product-z v = ring (put v []) (noneᵉ ⊗ var 0 ⊕ noneᵉ ⊗ var 1 ⊕ oneᵉ ⊗ var 2) (var 2) tt
+product-z v = omega (arith, ints)
 
 pub dot-minus : (d u v : V3) → dot d (u -ᵛ v) ≡ dot d u -ℤ dot d v
 unfolding dot ◌-ᵛ◌
 dot-minus d u v = ring (put d (put u (put v []))) (dotᵉ (vars 0) (vars 3 -ᵉ vars 6)) (dotᵉ (vars 0) (vars 3) ⊖ dotᵉ (vars 0) (vars 6)) tt
-
-module _ (d : V3) (m : Moving) where
-  abbrev ρ : List ℤ
-  ρ = put d (put m.start (put m.end []))
-
-  abbrev mixedᵉ : ℤ → ℤ → Exp
-  mixedᵉ a b = dotᵉ (vars 0) (con a ·ᵉ vars 3 +ᵉ con b ·ᵉ vars 6)
-
-  dot-start : dot d (after 1 0 m) ≡ dot d m.start +ℤ dot d m.start
-  unfolding dot ◌+ᵛ◌ ◌·ᵛ◌ at after
-  dot-start = ring ρ (mixedᵉ (pos 2) (pos 0)) (dotᵉ (vars 0) (vars 3) ⊕ dotᵉ (vars 0) (vars 3)) tt
-
-  dot-middle : dot d (after 1 1 m) ≡ dot d m.start +ℤ dot d m.end
-  unfolding dot ◌+ᵛ◌ ◌·ᵛ◌ at after
-  dot-middle = ring ρ (mixedᵉ (pos 1) (pos 1)) (dotᵉ (vars 0) (vars 3) ⊕ dotᵉ (vars 0) (vars 6)) tt
-
-  dot-end : dot d (after 1 2 m) ≡ dot d m.end +ℤ dot d m.end
-  unfolding dot ◌+ᵛ◌ ◌·ᵛ◌ at after
-  dot-end = ring ρ (mixedᵉ (pos 0) (pos 2)) (dotᵉ (vars 0) (vars 6) ⊕ dotᵉ (vars 0) (vars 6)) tt
 
 sum-below : (x y g z : ℤ) → z ≡ x +ℤ y → x ≤ℤ g → y ≤ℤ g → z ≤ℤ (g +ℤ g)
 sum-below x y g z e p q = omega (arith, ints)
@@ -123,6 +99,9 @@ module _ (axis : V3 → ℤ) (a : Axis axis) where
   minus-product : (u v : V3) → dot a.way (u -ᵛ v) ≡ axis u -ℤ axis v
   minus-product u v = dot-minus a.way u v ∙ (λ i. a.product u i -ℤ a.product v i)
 
+  sum-product : (u v : V3) → axis (u +ᵛ v) ≡ axis u +ℤ axis v
+  sum-product u v = sym (a.product (u +ᵛ v)) ∙ dot-sum a.way u v ∙ (λ i. a.product u i +ℤ a.product v i)
+
   -- ns lies below ms
   over : (ms ns : List Moving) → under axis ns ms ≡ true → Beyonds a.way ms ns
   over ms ns h =
@@ -153,13 +132,13 @@ module _ (axis : V3 → ℤ) (a : Axis axis) where
 
   -- ---- the halves
   on-start : (m : Moving) → axis (after 1 0 m) ≡ axis m.start +ℤ axis m.start
-  on-start m = sym (a.product (after 1 0 m)) ∙ dot-start a.way m ∙ (λ i. a.product m.start i +ℤ a.product m.start i)
+  on-start m = ap axis (at_start m) ∙ sum-product m.start m.start
 
   on-middle : (m : Moving) → axis (after 1 1 m) ≡ axis m.start +ℤ axis m.end
-  on-middle m = sym (a.product (after 1 1 m)) ∙ dot-middle a.way m ∙ (λ i. a.product m.start i +ℤ a.product m.end i)
+  on-middle m = ap axis (at_middle m) ∙ sum-product m.start m.end
 
   on-end : (m : Moving) → axis (after 1 2 m) ≡ axis m.end +ℤ axis m.end
-  on-end m = sym (a.product (after 1 2 m)) ∙ dot-end a.way m ∙ (λ i. a.product m.end i +ℤ a.product m.end i)
+  on-end m = ap axis (at_end m) ∙ sum-product m.end m.end
 
   -- a half reaches no further than twice the whole
   abbrev Half : (Moving → Moving) → Type 0

@@ -55,7 +55,7 @@ beyond-below d ms ns h = each-map (λ m q. each-map (λ n s. record { at-start =
 abbrev Adds : (V3 → Bool) → Type 0
 Adds f = (u v : V3) → f u ≡ true → f v ≡ true → f (u +ᵛ v) ≡ true
 
-dot-sum : (d u v : V3) → dot d (u +ᵛ v) ≡ dot d u +ℤ dot d v
+pub dot-sum : (d u v : V3) → dot d (u +ᵛ v) ≡ dot d u +ℤ dot d v
 unfolding dot ◌+ᵛ◌
 dot-sum d u v = ring (put d (put u (put v []))) (dotᵉ (vars 0) (vars 3 +ᵉ vars 6)) (dotᵉ (vars 0) (vars 3) ⊕ dotᵉ (vars 0) (vars 6)) tt
 

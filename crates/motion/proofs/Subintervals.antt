@@ -2,6 +2,7 @@
 -- is within its own.
 use Rattle.std.proofs.Common.{◌≡◌, ℕ, suc, ◌+◌, ◌*◌, ◌^◌, ◌<◌, ◌≤◌, [], ◌∷◌, ℤ, pos, ◌+ℤ◌, ◌-ℤ◌, ◌*ℤ◌, ap, ◌∙◌, subst, add_assoc, mul_comm, pow-suc, arith}
 use Rattle.std.proofs.lemmas.Nat.{pow-add}
+use borrow.Author.Differences.{ints}
 use Rattle.motion.specs.declared.shapes.Moving.{Moving}
 use Rattle.motion.specs.declared.shapes.Shape.{Shape}
 use Rattle.motion.specs.Vectors.{◌+ᵛ◌, ◌·ᵛ◌}
@@ -83,10 +84,10 @@ in-last t d j = ap (λ k. subinterval (suc d) k t) same ∙ nested-subinterval t
 
 -- ---- the whole is its only subinterval of depth 0
 whole-at : (s e : ℤ) → pos 1 *ℤ s +ℤ pos 0 *ℤ e ≡ s
-whole-at s e = ring (s ∷ e ∷ []) (con (pos 1) ⊗ var 0 ⊕ con (pos 0) ⊗ var 1) (var 0) tt
+whole-at s e = omega (arith, ints)
 
 end-at : (s e : ℤ) → pos 0 *ℤ s +ℤ pos 1 *ℤ e ≡ e
-end-at s e = ring (s ∷ e ∷ []) (con (pos 0) ⊗ var 0 ⊕ con (pos 1) ⊗ var 1) (var 1) tt
+end-at s e = omega (arith, ints)
 
 whole-portion : (m : Moving) → portion 0 0 m ≡ m
 unfolding after at ◌+ᵛ◌ ◌·ᵛ◌
