@@ -2,7 +2,7 @@
 // with the other.
 ghost use Rattle.std.specs.Prelude.{◌≡◌, ◌*◌, ◌^◌, pos, ◌+ℤ◌, ◌*ℤ◌, IsTrue};
 ghost use Rattle.motion.specs.Vectors.{◌-ᵛ◌, dot};
-ghost use Rattle.motion.specs.Plane.{d0, d1, n0, n1, 2n̂, normal, combined, controls, all_above, all_below, one_sign, plane_set, StaysAbove, StaysBelow};
+ghost use Rattle.motion.specs.Plane.{d0, d1, n0, n1, 2n̂, normal, controls, all_above, all_below, one_sign, plane_set, StaysAbove, StaysBelow};
 ghost use Rattle.motion.proofs.PlaneLaws.{plane-lawful};
 ghost use Rattle.filters.specs.Reaching.{Reach, Small};
 
@@ -79,7 +79,10 @@ impl Factors {
     }
 
     fn combined(self) -> Controls
-        ensures { result ≡ combined self.d0 self.d1 self.n0 self.n1 self.between }
+        ensures g0 { result.g0 ≡ pos 3 *ℤ dot self.d0 self.n0 }
+        ensures g1 { result.g1 ≡ dot self.d0 self.between +ℤ dot self.d1 self.n0 }
+        ensures g2 { result.g2 ≡ dot self.d1 self.between +ℤ dot self.d0 self.n1 }
+        ensures g3 { result.g3 ≡ pos 3 *ℤ dot self.d1 self.n1 }
     {
         Controls {
             g0: outer(self.d0, self.n0),

@@ -8,7 +8,8 @@ pub returns : goal.returns
 unfolding controls
 returns c =
     let f = c.of.ensures in
-    let e = c.combined.ensures ∙ (λ i. combined (f.d0 i) (f.d1 i) (f.n0 i) (f.n1 i) (f.between i)) in
+    let g = c.combined.ensures in
+    let e = (λ i. record { g0 = g.g0 i; g1 = g.g1 i; g2 = g.g2 i; g3 = g.g3 i }) ∙ (λ i. combined (f.d0 i) (f.d1 i) (f.n0 i) (f.n1 i) (f.between i)) in
     let t = c.args.test.now in
     record {
       value = e;
