@@ -9,7 +9,7 @@ use Rattle.motion.specs.declared.shapes.Moving.{Moving}
 use Rattle.motion.specs.declared.shapes.Shape.{Shape}
 use Rattle.motion.specs.Vectors.{◌+ᵛ◌, ◌-ᵛ◌, ◌·ᵛ◌, origin}
 use Rattle.motion.specs.Features.{firsts, seconds, first, second}
-use Rattle.motion.specs.Laws.{Far, on-x, on-y, on-z, Apart, Weights, at, after, portion, half, weighted, total, difference}
+use Rattle.motion.specs.Laws.{Far, on-x, on-y, on-z, ApartAt, Apart, at, after, portion, half, weighted, total, difference}
 use Rattle.motion.proofs.Ring.{Exp, var, con, ◌⊕◌, ◌⊗◌, ◌⊖◌, ring}
 use Rattle.motion.proofs.Gaps.{abs-mul}
 use Rattle.motion.proofs.SlabLaws.{ones-of, others-of}
@@ -111,7 +111,7 @@ module _ (t : Shape) (j p p' q : ℕ) (same : (m : Moving) → at p' q (portion 
   abbrev n : List ℕ → List ℕ → ℕ
   n ws us = total ws * total us * q
 
-  by-half : Apart (half j t) → 1 ≤ q → p' ≤ q → (ws us : List ℕ) → Weights ws (first t) → Weights us (second t) → Far t.scale (n ws us) (difference p q ws (first t) us (second t))
+  by-half : Apart (half j t) → 1 ≤ q → p' ≤ q → ApartAt p q t
   by-half h hq hp ws us (lw, hw) (lu, hu) =
       far-coarser t.scale (n ws us) (difference p q ws (first t) us (second t))
       (subst (λ (v : V3). Far (t.scale + 1) (n ws us) v)
@@ -121,6 +121,6 @@ module _ (t : Shape) (j p p' q : ℕ) (same : (m : Moving) → at p' q (portion 
 pub halves-apart : (t : Shape) → Apart (half 0 t) → Apart (half 1 t) → Apart t
 halves-apart t f g p q hq hp = go (dec_le (2 * p) q)
   where
-    go : Dec (2 * p ≤ q) → (ws us : List ℕ) → Weights ws (first t) → Weights us (second t) → Far t.scale (total ws * total us * q) (difference p q ws (first t) us (second t))
+    go : Dec (2 * p ≤ q) → ApartAt p q t
     go (yes h) = by-half t 0 p (2 * p) q (first-at p q) f hq h
     go (no h) = by-half t 1 p (2 * p - q) q (last-at p q (omega arith)) g hq (omega arith)

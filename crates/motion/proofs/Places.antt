@@ -21,6 +21,13 @@ pub at-place : (r p : ℕ) (m : Moving) → at p (r + p) m ≡ place (pos r) (po
 unfolding at place
 at-place r p m = ap (λ (z : ℤ). z ·ᵛ m.start +ᵛ pos p ·ᵛ m.end) (left-over r p)
 
+-- what holds wherever r parts are left and p are past holds at every fraction
+pub at-fractions : (P : ℕ → ℕ → Type 0) → ((r p : ℕ) → P p (r + p)) → (p q : ℕ) → p ≤ q → P p q
+at-fractions P f p q h = subst (P p) back (f (q - p) p)
+  where
+    back : q - p + p ≡ q
+    back = omega arith
+
 -- ---- sizes
 pub between : (B r p : ℕ) (s e : ℤ) → nat_abs s ≤ B → nat_abs e ≤ B → nat_abs (pos r *ℤ s +ℤ pos p *ℤ e) ≤ B * (r + p)
 between B r p s e hs he =
@@ -47,12 +54,9 @@ module _ (k r p : ℕ) where
   short m n f g =
       within-minus (4096 * 2 ^ k * (r + p)) (8192 * 2 ^ k * (r + p)) (place (pos r) (pos p) m) (place (pos r) (pos p) n) (omega arith) (within-place m f) (within-place n g)
 
-pub within-at : (k p q : ℕ) → p ≤ q → (m : Moving) → InReach k m → Within (4096 * 2 ^ k * q) (at p q m)
-within-at k p q h m f =
-    subst (λ (n : ℕ). Within (4096 * 2 ^ k * n) (at p n m)) back (subst (Within (4096 * 2 ^ k * (q - p + p))) (sym (at-place (q - p) p m)) (within-place k (q - p) p m f))
-  where
-    back : q - p + p ≡ q
-    back = omega arith
+pub within-at : (k : ℕ) (m : Moving) → InReach k m → (p q : ℕ) → p ≤ q → Within (4096 * 2 ^ k * q) (at p q m)
+within-at k m f =
+    at-fractions (λ p q. Within (4096 * 2 ^ k * q) (at p q m)) (λ r p. subst (Within (4096 * 2 ^ k * (r + p))) (sym (at-place r p m)) (within-place k r p m f))
 
 -- ---- the determinant on the way is the one of the places
 abbrev placeᵉ : E3 → E3 → E3

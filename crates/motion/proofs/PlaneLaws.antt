@@ -1,5 +1,5 @@
 -- Plane keeps both laws.
-use Rattle.std.proofs.Common.{◌≡◌, ℕ, ◌+◌, ◌-◌, ◌*◌, ◌^◌, ◌≤◌, true, List, [], ◌∷◌, map, ℤ, pos, neg_ℤ, ◌*ℤ◌, ◌≤ℤ◌, nat_abs, sym, ap, ◌∙◌, subst, inl, inr, ⊎_elim, mul-le-mul_left, mul-pos, arith}
+use Rattle.std.proofs.Common.{◌≡◌, ℕ, ◌+◌, ◌*◌, ◌^◌, ◌≤◌, true, List, [], ◌∷◌, map, ℤ, pos, neg_ℤ, ◌*ℤ◌, ◌≤ℤ◌, nat_abs, sym, ap, ◌∙◌, subst, inl, inr, ⊎_elim, mul-le-mul_left, mul-pos, arith}
 use mathlib.Core.Path.{transport}
 use Rattle.std.proofs.lemmas.Bool.{or_cases}
 use Rattle.motion.specs.declared.shapes.V3.{V3}
@@ -9,13 +9,13 @@ use Rattle.motion.specs.declared.shapes.Moving.{Moving}
 use Rattle.motion.specs.declared.shapes.Shape.{Shape}
 use Rattle.motion.specs.Vectors.{◌-ᵛ◌, ◌·ᵛ◌, dot, cross}
 use Rattle.motion.specs.Features.{firsts, seconds, first, second}
-use Rattle.motion.specs.Laws.{Valid, Far, Apart, Lawful, Weights, weighted, total, difference, half}
+use Rattle.motion.specs.Laws.{Valid, Far, ApartAt, Apart, Lawful, Weights, weighted, total, half}
 use Rattle.motion.specs.Plane.{controls, all_above, all_below, plane_set, volume_at, StaysAbove, StaysBelow, NeverCoplanar}
 use Rattle.motion.proofs.Determinants.{det, det_of, along, seen, at_start, at_end, Above, Below, IsOneSigned, sum}
 use Rattle.motion.proofs.Gaps.{abs-mul, abs-neg, far-by-normal}
 use Rattle.motion.proofs.Bernstein.{above-at, below-at, never-flat}
 use Rattle.motion.proofs.Weights.{face_difference, edge_difference, weighted-face, weighted-edge}
-use Rattle.motion.proofs.Places.{place, at-place, short, on-the-way}
+use Rattle.motion.proofs.Places.{place, at-place, at-fractions, short, on-the-way}
 use Rattle.motion.proofs.ControlHalves.{halves-keep}
 use Rattle.motion.proofs.Halves.{minus-start, minus-middle, minus-end}
 use Rattle.motion.proofs.Signs.{above, below, one-sign, struck-above, struck-below}
@@ -83,19 +83,13 @@ module _ (t : Shape) (r p : ℕ) (v : Valid t) (hq : 1 ≤ r + p) (sign : IsOneS
   all-far Ee (i ∷ j ∷ []) (k ∷ []) _ (e, _) = absurd (omega arith)
   all-far Ee (i ∷ j ∷ []) (k ∷ l ∷ m ∷ us) _ (e, _) = absurd (omega arith)
 
-  far-then : (ws us : List ℕ) → Weights ws (first t) → Weights us (second t)
-      → Far t.scale (total ws * total us * (r + p)) (difference p (r + p) ws (first t) us (second t))
-  far-then ws us hw hu =
+  apart-at : ApartAt p (r + p) t
+  apart-at ws us hw hu =
       subst (λ (f : Moving → V3). Far t.scale (total ws * total us * (r + p)) (between f ws (first t) us (second t)))
       (λ i m. sym (at-place r p m) i) (all-far t.kind ws us hw hu)
 
-back : (p q : ℕ) → p ≤ q → q - p + p ≡ q
-back p q h = omega arith
-
 plane-apart : (t : Shape) → Valid t → plane_set t ≡ true → Apart t
-plane-apart t v h p q hq hp =
-    subst (λ (q : ℕ). (ws us : List ℕ) → Weights ws (first t) → Weights us (second t) → Far t.scale (total ws * total us * q) (difference p q ws (first t) us (second t)))
-    (back p q hp) (far-then t (q - p) p v (omega arith) (one-sign t h))
+plane-apart t v h p q hq hp = at-fractions (λ p q. 1 ≤ q → ApartAt p q t) (λ r p k. apart-at t r p v k (one-sign t h)) p q hp hq
 
 -- ---- the halves
 module _ (t : Shape) where
@@ -138,8 +132,7 @@ module _ (t : Shape) where
 
   -- what holds of the volume and of q when r of q parts are left, p past, holds at the fraction p/q
   on-fractions : (P : ℤ → ℕ → Type 0) → ((r p : ℕ) → P (volume_along r p) (r + p)) → (p q : ℕ) → p ≤ q → P (volume_at p q t) q
-  on-fractions P f p q h =
-      subst (λ (n : ℕ). P (volume_at p n t) n) (back p q h) (subst (λ (z : ℤ). P z (q - p + p)) (sym (at-places (q - p) p)) (f (q - p) p))
+  on-fractions P f = at-fractions (λ p q. P (volume_at p q t) q) (λ r p. subst (λ (z : ℤ). P z (r + p)) (sym (at-places r p)) (f r p))
 
   pub stays-above : all_above (controls t) ≡ true → StaysAbove t
   stays-above h =

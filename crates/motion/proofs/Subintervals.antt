@@ -114,7 +114,7 @@ whole t =
 -- ---- bounds
 reach-after : (k h j : ℕ) → j ≤ 2 ^ h → (m : Moving) → InReach k m → Within (4096 * 2 ^ (k + h)) (after h j m)
 unfolding after
-reach-after k h j le m r = subst (λ (B : ℕ). Within B (at j (2 ^ h) m)) finer (within-at k j (2 ^ h) le m r)
+reach-after k h j le m r = subst (λ (B : ℕ). Within B (at j (2 ^ h) m)) finer (within-at k m r j (2 ^ h) le)
   where
     finer : 4096 * 2 ^ k * 2 ^ h ≡ 4096 * 2 ^ (k + h)
     finer = omega (arith, pow-add 2 k h)

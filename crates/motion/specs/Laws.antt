@@ -52,12 +52,15 @@ difference p q ws ms us ns =
     pos (total us) ·ᵛ weighted ws (map (at p q) ms)
     -ᵛ pos (total ws) ·ᵛ weighted us (map (at p q) ns)
 
--- at every fraction of the step any point of the one feature is far from any of the other
-abbrev pub Apart : Shape → Type 0
-Apart t =
-    (p q : ℕ) → 1 ≤ q → p ≤ q
-    → (ws us : List ℕ) → Weights ws (first t) → Weights us (second t)
+-- at the fraction p/q any point of the one feature is far from any of the other
+abbrev pub ApartAt : ℕ → ℕ → Shape → Type 0
+ApartAt p q t =
+    (ws us : List ℕ) → Weights ws (first t) → Weights us (second t)
     → Far t.scale (total ws * total us * q) (difference p q ws (first t) us (second t))
+
+-- and so at every fraction of the step
+abbrev pub Apart : Shape → Type 0
+Apart t = (p q : ℕ) → 1 ≤ q → p ≤ q → ApartAt p q t
 
 -- ---- subintervals: part j of the 2^h equal ones of the step, on a grid 2^h times as fine
 unfoldable pub after : ℕ → ℕ → Moving → V3
