@@ -9,7 +9,7 @@ use Rattle.motion.specs.declared.shapes.Moving.{Moving}
 use Rattle.motion.specs.declared.shapes.Shape.{Shape}
 use Rattle.motion.specs.Vectors.{◌-ᵛ◌, ◌·ᵛ◌, dot, cross}
 use Rattle.motion.specs.Features.{firsts, seconds, first, second}
-use Rattle.motion.specs.Laws.{Valid, Far, ApartAt, Apart, Lawful, Weights, weighted, total, half}
+use Rattle.motion.specs.Laws.{Valid, FarBy, ApartAt, gap, Apart, Lawful, Weights, weighted, total, half}
 use Rattle.motion.specs.Plane.{controls, all_above, all_below, plane_set, volume_at, StaysAbove, StaysBelow, NeverCoplanar}
 use Rattle.motion.proofs.Determinants.{det, det_of, along, seen, at_start, at_end, Above, Below, IsOneSigned, sum}
 use Rattle.motion.proofs.Gaps.{abs-mul, abs-neg, far-by-normal}
@@ -39,7 +39,7 @@ module _ (t : Shape) (r p : ℕ) (v : Valid t) (hq : 1 ≤ r + p) (sign : IsOneS
   large = rw (on-the-way (pos r) (pos p) t) (never-flat (at_start t) (at_end t) r p sign)
 
   face-far : (i j k l : ℕ) → 1 ≤ i + 0 → 1 ≤ j + (k + (l + 0))
-      → Far t.scale ((i + 0) * (j + (k + (l + 0))) * (r + p)) (face_difference (here t.p) (here t.a) (here t.b) (here t.c) i j k l)
+      → FarBy gap t.scale ((i + 0) * (j + (k + (l + 0))) * (r + p)) (face_difference (here t.p) (here t.a) (here t.b) (here t.c) i j k l)
   face-far i j k l hi hj =
       far-by-normal t.scale ((i + 0) * (j + (k + (l + 0)))) (r + p) (here t.b -ᵛ here t.a) (here t.c -ᵛ here t.a) _ v.0 (mul-pos hi hj) hq
       (short t.scale r p t.b t.a v.3 v.2) (short t.scale r p t.c t.a v.4 v.2)
@@ -48,7 +48,7 @@ module _ (t : Shape) (r p : ℕ) (v : Valid t) (hq : 1 ≤ r + p) (sign : IsOneS
       (ap nat_abs (weighted-face (here t.p) (here t.a) (here t.b) (here t.c) i j k l) ∙ sized (i + 0) (j + (k + (l + 0))) volume))
 
   edge-far : (i j k l : ℕ) → 1 ≤ i + (j + 0) → 1 ≤ k + (l + 0)
-      → Far t.scale ((i + (j + 0)) * (k + (l + 0)) * (r + p)) (edge_difference (here t.p) (here t.a) (here t.b) (here t.c) i j k l)
+      → FarBy gap t.scale ((i + (j + 0)) * (k + (l + 0)) * (r + p)) (edge_difference (here t.p) (here t.a) (here t.b) (here t.c) i j k l)
   edge-far i j k l hi hk =
       far-by-normal t.scale ((i + (j + 0)) * (k + (l + 0))) (r + p) (here t.p -ᵛ here t.a) (here t.c -ᵛ here t.b) _ v.0 (mul-pos hi hk) hq
       (short t.scale r p t.p t.a v.1 v.2) (short t.scale r p t.c t.b v.4 v.3)
@@ -67,7 +67,7 @@ module _ (t : Shape) (r p : ℕ) (v : Valid t) (hq : 1 ≤ r + p) (sign : IsOneS
   others k = seconds k t.p t.a t.b t.c
 
   all-far : (kind : Kind) (ws us : List ℕ) → Weights ws (ones kind) → Weights us (others kind)
-      → Far t.scale (total ws * total us * (r + p)) (between here ws (ones kind) us (others kind))
+      → FarBy gap t.scale (total ws * total us * (r + p)) (between here ws (ones kind) us (others kind))
   all-far Vf (i ∷ []) (j ∷ k ∷ l ∷ []) (_, hi) (_, hj) = face-far i j k l hi hj
   all-far Vf [] us (e, _) _ = absurd (omega arith)
   all-far Vf (i ∷ i' ∷ ws) us (e, _) _ = absurd (omega arith)
@@ -83,13 +83,13 @@ module _ (t : Shape) (r p : ℕ) (v : Valid t) (hq : 1 ≤ r + p) (sign : IsOneS
   all-far Ee (i ∷ j ∷ []) (k ∷ []) _ (e, _) = absurd (omega arith)
   all-far Ee (i ∷ j ∷ []) (k ∷ l ∷ m ∷ us) _ (e, _) = absurd (omega arith)
 
-  apart-at : ApartAt p (r + p) t
+  apart-at : ApartAt gap p (r + p) t
   apart-at ws us hw hu =
-      subst (λ (f : Moving → V3). Far t.scale (total ws * total us * (r + p)) (between f ws (first t) us (second t)))
+      subst (λ (f : Moving → V3). FarBy gap t.scale (total ws * total us * (r + p)) (between f ws (first t) us (second t)))
       (λ i m. sym (at-place r p m) i) (all-far t.kind ws us hw hu)
 
 plane-apart : (t : Shape) → Valid t → plane_set t ≡ true → Apart t
-plane-apart t v h p q hq hp = at-fractions (λ p q. 1 ≤ q → ApartAt p q t) (λ r p k. apart-at t r p v k (one-sign t h)) p q hp hq
+plane-apart t v h p q hq hp = at-fractions (λ p q. 1 ≤ q → ApartAt gap p q t) (λ r p k. apart-at t r p v k (one-sign t h)) p q hp hq
 
 -- ---- the halves
 module _ (t : Shape) where

@@ -7,7 +7,7 @@ use Rattle.motion.specs.declared.shapes.Moving.{Moving}
 use Rattle.motion.specs.declared.shapes.Shape.{Shape}
 use Rattle.motion.specs.Vectors.{◌+ᵛ◌, ◌-ᵛ◌, ◌·ᵛ◌, dot, origin}
 use Rattle.motion.specs.Features.{first, second}
-use Rattle.motion.specs.Laws.{Valid, Within, Far, ApartAt, Apart, weighted, total}
+use Rattle.motion.specs.Laws.{Valid, Within, FarBy, ApartAt, gap, Apart, weighted, total}
 use Rattle.motion.proofs.Ring.{var, con, ◌⊕◌, ◌⊗◌, opp, ring}
 use Rattle.motion.proofs.Expressions.{◌+ᵉ◌, ◌-ᵉ◌, ◌·ᵉ◌, dotᵉ, vars, originᵉ, put}
 use Rattle.motion.proofs.Places.{place, at-place, at-fractions}
@@ -94,9 +94,9 @@ size : (n : ℕ) (z : ℤ) → pos n ≤ℤ z → n ≤ nat_abs z
 size n z h = omega (arith, ints)
 
 module _ (t : Shape) (v : Valid t) (d : V3) (w : Within 1 d) (b : Beyonds d (first t) (second t)) where
-  apart-at : (r p : ℕ) → 1 ≤ r + p → ApartAt p (r + p) t
+  apart-at : (r p : ℕ) → 1 ≤ r + p → ApartAt gap p (r + p) t
   apart-at r p hq ws us hw hu =
-      subst (λ (f : Moving → V3). Far t.scale (total ws * total us * (r + p)) (pos (total us) ·ᵛ weighted ws (map f (first t)) -ᵛ pos (total ws) ·ᵛ weighted us (map f (second t))))
+      subst (λ (f : Moving → V3). FarBy gap t.scale (total ws * total us * (r + p)) (pos (total us) ·ᵛ weighted ws (map f (first t)) -ᵛ pos (total ws) ·ᵛ weighted us (map f (second t))))
       (λ i m. sym (at-place r p m) i)
       (far-along t.scale (total ws * total us * (r + p)) d _ v.0 (mul-pos (mul-pos hw.1 hu.1) hq) w
       (regroup (total ws) (total us) (r + p) _ (size _ _ (all-far d r p ws us (first t) (second t) hw.0 hu.0 b))))
@@ -105,7 +105,7 @@ module _ (t : Shape) (v : Valid t) (d : V3) (w : Within 1 d) (b : Beyonds d (fir
       regroup i j q n h = omega arith
 
   pub beyonds-apart : Apart t
-  beyonds-apart p q hq hp = at-fractions (λ p q. 1 ≤ q → ApartAt p q t) apart-at p q hp hq
+  beyonds-apart p q hq hp = at-fractions (λ p q. 1 ≤ q → ApartAt gap p q t) apart-at p q hp hq
 
 -- ---- the direction turned round
 abbrev pub opposite : V3 → V3
