@@ -2,9 +2,7 @@ pub mod Exact
 pub mod Reaches
 pub mod Extents
 pub mod Pairwise
-pub mod Portions
 pub mod Turns
 pub mod Inside
 pub mod Volumes
-pub mod Reached
 pub mod Passes

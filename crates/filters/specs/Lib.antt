@@ -2,4 +2,3 @@ pub mod Reaching
 pub mod Spans
 pub mod Boxes
 pub mod Slabs
-pub mod Bounds

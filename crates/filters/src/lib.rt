@@ -5,8 +5,6 @@
 mod boxes;
 mod depths;
 mod filter;
-mod halves;
-mod making;
 mod planes;
 mod rows;
 mod slabs;

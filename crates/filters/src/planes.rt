@@ -1,8 +1,8 @@
 // The filter Plane: the point never comes into the plane of the face, nor one edge into a plane
 // with the other.
-ghost use Rattle.std.specs.Prelude.{◌≡◌, ◌*◌, ◌^◌, pos, ◌+ℤ◌, ◌*ℤ◌};
+ghost use Rattle.std.specs.Prelude.{◌≡◌, ◌*◌, ◌^◌, pos, ◌+ℤ◌, ◌*ℤ◌, IsTrue};
 ghost use Rattle.motion.specs.Vectors.{◌-ᵛ◌, dot};
-ghost use Rattle.motion.specs.Plane.{d0, d1, n0, n1, 2n̂, normal, combined, controls, all_above, all_below, one_sign, plane_set};
+ghost use Rattle.motion.specs.Plane.{d0, d1, n0, n1, 2n̂, normal, controls, all_above, all_below, one_sign, plane_set, StaysAbove, StaysBelow};
 ghost use Rattle.motion.proofs.PlaneLaws.{plane-lawful};
 ghost use Rattle.filters.specs.Reaching.{Reach, Small};
 
@@ -26,9 +26,14 @@ impl Filter for PlaneFilter {
 }
 
 /// The four control values of a test: no value is rounded, and none exceeds 18·2^57 in size.
+///
+/// Where all four are above zero, the point stays above the plane of the other three for the whole
+/// step; where all are below, it stays below.
 pub fn controls(test: &Test) -> Controls
     ensures value { result ≡ controls test.now.shape }
     ensures size { Small result }
+    ensures above { IsTrue (all_above result) → StaysAbove test.now.shape }
+    ensures below { IsTrue (all_below result) → StaysBelow test.now.shape }
 {
     Factors::of(test).combined()
 }
@@ -74,7 +79,10 @@ impl Factors {
     }
 
     fn combined(self) -> Controls
-        ensures { result ≡ combined self.d0 self.d1 self.n0 self.n1 self.between }
+        ensures g0 { result.g0 ≡ pos 3 *ℤ dot self.d0 self.n0 }
+        ensures g1 { result.g1 ≡ dot self.d0 self.between +ℤ dot self.d1 self.n0 }
+        ensures g2 { result.g2 ≡ dot self.d1 self.between +ℤ dot self.d0 self.n1 }
+        ensures g3 { result.g3 ≡ pos 3 *ℤ dot self.d1 self.n1 }
     {
         Controls {
             g0: outer(self.d0, self.n0),

@@ -1,7 +1,7 @@
 // The window at a depth.
 ghost use Rattle.std.specs.Prelude.{◌≡◌, ◌+◌, ◌^◌, ◌<◌, ◌≤◌, nat_le, if◌then◌else◌, Some, None, IfSome};
-ghost use Rattle.std.specs.Option.{option_map, option_zip};
-ghost use Rattle.motion.specs.Depths.{first_passed, last_passed, window_at};
+ghost use Rattle.std.specs.Option.{option_map};
+ghost use Rattle.motion.specs.Depths.{first_passed, last_passed, window_at, WindowMeans};
 
 use crate::depths::has_room;
 use crate::filter::Filter;
@@ -9,10 +9,15 @@ use crate::tests::Test;
 
 /// The first and the last of the 2^depth subintervals that the filter passes, or none where it
 /// strikes each; no answer where the scale and the depth pass 6 together.
+///
+/// In each subinterval before the first and after the last the features stay apart; where there is
+/// no window, they do so for the whole step (`meaning`).
 pub fn window_at<F: Filter>(filter: &F, test: &Test, depth: u8) -> Option<Option<(u8, u8)>>
-    ensures { let set = F.Filter.struck filter.now in
+    ensures answer { let set = F.Filter.struck filter.now in
         let t = test.now.shape in
         result ≡ (if nat_le (t.scale + depth) 6 then Some (window_at set depth t) else None) }
+    ensures meaning { IfSome result
+        (WindowMeans (F.Filter.struck filter.now) depth test.now.shape) }
 {
     if !has_room(test.shape.scale, depth) {
         return None;
@@ -25,10 +30,7 @@ fn window<F: Filter>(filter: &F, test: &Test, depth: u8) -> Option<(u8, u8)>
     requires { test.now.shape.scale + depth ≤ 6 }
     ensures { result ≡ window_at (F.Filter.struck filter.now) depth test.now.shape }
 {
-    both(
-        first_passed(filter, test, depth),
-        last_passed(filter, test, depth),
-    )
+    first_passed(filter, test, depth).zip(last_passed(filter, test, depth))
 }
 
 /// What is struck whole is struck in every part, so the whole is asked first, and its halves only
@@ -80,11 +82,4 @@ fn of_last_half(part: Option<u8>, depth: u8) -> Option<u8>
 {
     let part = part?;
     Some((1 << depth) + part)
-}
-
-/// Both numbers, or none.
-fn both(first: Option<u8>, last: Option<u8>) -> Option<(u8, u8)>
-    ensures { result ≡ option_zip first last }
-{
-    Some((first?, last?))
 }

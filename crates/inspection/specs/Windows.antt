@@ -1,11 +1,11 @@
 -- The window of an entry: its checks, in their order, and its answer where none fits.
-use Rattle.std.specs.Prelude.{◌≡◌, ℕ, Bool, false, not, List, [], ◌∷◌, length, Some, None, Option, Result, IfOk, nat_le, slice_get}
+use Rattle.std.specs.Prelude.{◌≡◌, ℕ, Bool, false, not, List, [], ◌∷◌, length, Some, None, Option, Result, IfOk, IfSome, nat_le, slice_get}
 use Rattle.sheet.specs.Checks.{Check, first_fit, fault_notice}
 use Rattle.sheet.specs.declared.notices.Layer.TheVariants.{Window}
 use Rattle.sheet.specs.declared.rows.Point.{Point}
 use Rattle.sheet.specs.declared.rows.Face.{Face}
 use Rattle.motion.specs.declared.shapes.Shape.{Shape}
-use Rattle.motion.specs.Depths.{window_at}
+use Rattle.motion.specs.Depths.{window_at, WindowMeans}
 use Rattle.inspection.specs.declared.faults.WindowFault.{WindowFault}
 use Rattle.inspection.specs.Faults.{check, notice_of_window}
 use Rattle.inspection.specs.Sheets.{Sheet, sheet_in}
@@ -42,3 +42,5 @@ module _
       : Type 0 where
     pub fault : fault_notice notice_of_window r ≡ first_fit window_checks
     pub value : IfOk r (λ w. w ≡ window_of set c.depth (n.shape sheet) (slice_get h.entries i))
+    pub meaning : IfOk r (λ w.
+        IfSome (slice_get h.entries i) (λ e. WindowMeans set c.depth (n.shape sheet e) w))

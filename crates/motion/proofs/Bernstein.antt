@@ -2,7 +2,7 @@
 use Rattle.std.proofs.Common.{◌≡◌, ℕ, zero, suc, ◌+◌, ◌*◌, ◌^◌, ◌≤◌, T, ltb, [], ◌∷◌, ℤ, pos, negsuc, ◌+ℤ◌, ◌*ℤ◌, neg_ℤ, nat_abs, ◌≤ℤ◌, ◌<ℤ◌, ap, ◌∙◌, subst, inl, inr, pow-suc, arith, ltb→lt}
 use native.Mathlib.Nat.{pow-zero}
 use borrow.Author.Differences.{ints}
-use Rattle.motion.proofs.Determinants.{Triple, det, along, det_of, G0, G1, G2, G3, Above, IsOneSigned}
+use Rattle.motion.proofs.Determinants.{Triple, det, along, det_of, G0, G1, G2, G3, Above, Below, IsOneSigned}
 use Rattle.motion.proofs.Ring.{Exp, var, con, ◌⊕◌, ◌⊗◌, ring}
 use Rattle.motion.proofs.Expressions.{det_ofᵉ, alongᵉ, G0ᵉ, G1ᵉ, G2ᵉ, G3ᵉ, moving, S, E}
 
@@ -36,8 +36,8 @@ cube-of-sum : (r p : ℕ) → (r + p) ^ 3 ≡ r * r * r + 3 * (p * (r * r)) + 3 
 cube-of-sum r p = pow-suc (r + p) 2 ∙ ap (λ (n : ℕ). n * (r + p)) (pow-suc (r + p) 1 ∙ ap (λ (n : ℕ). n * (r + p)) (pow-suc (r + p) 0 ∙ ap (λ (n : ℕ). n * (r + p)) (pow-zero (r + p)))) ∙ omega arith
 
 -- at naturals r and p, where r + p is q
-apart-at : (s e : Triple) (r p : ℕ) → Above s e → pos ((r + p) ^ 3) ≤ℤ (pos 3 *ℤ det_of (along (pos r) (pos p) s e))
-apart-at s e r p h =
+pub above-at : (s e : Triple) (r p : ℕ) → Above s e → pos ((r + p) ^ 3) ≤ℤ (pos 3 *ℤ det_of (along (pos r) (pos p) s e))
+above-at s e r p h =
     omega (arith, ints, cube-of-sum r p, bernstein s e (pos r) (pos p), times-ge (G0 s e) (r * r * r) h.at0, times3-ge (G1 s e) (p * (r * r)) h.at1, times3-ge (G2 s e) (p * p * r) h.at2, times-ge (G3 s e) (p * p * p) h.at3)
 
 -- ---- the same from above
@@ -57,12 +57,12 @@ times3-le g n h =
 four-below : (x a b c d : ℤ) (k l m n : ℕ) → x ≡ a +ℤ b +ℤ c +ℤ d → a ≤ℤ neg_ℤ (pos k) → b ≤ℤ neg_ℤ (pos l) → c ≤ℤ neg_ℤ (pos m) → d ≤ℤ neg_ℤ (pos n) → x ≤ℤ neg_ℤ (pos (k + l + m + n))
 four-below x a b c d k l m n e ha hb hc hd = omega (arith, ints)
 
-size-below : (d : ℤ) (n : ℕ) → (pos 3 *ℤ d) ≤ℤ neg_ℤ (pos n) → n ≤ 3 * nat_abs d
-size-below d n h = omega (arith, ints)
+pub below-at : (s e : Triple) (r p : ℕ) → Below s e → (pos 3 *ℤ det_of (along (pos r) (pos p) s e)) ≤ℤ neg_ℤ (pos ((r + p) ^ 3))
+below-at s e r p h =
+    rw (cube-of-sum r p)
+    (four-below (pos 3 *ℤ det_of (along (pos r) (pos p) s e)) _ _ _ _ (r * r * r) (3 * (p * (r * r))) (3 * (p * p * r)) (p * p * p) (bernstein s e (pos r) (pos p))
+    (times-le (G0 s e) (r * r * r) h.at0) (times3-le (G1 s e) (p * (r * r)) h.at1) (times3-le (G2 s e) (p * p * r) h.at2) (times-le (G3 s e) (p * p * p) h.at3))
 
 pub never-flat : (s e : Triple) (r p : ℕ) → IsOneSigned s e → (r + p) ^ 3 ≤ 3 * nat_abs (det_of (along (pos r) (pos p) s e))
-never-flat s e r p (inl h) = omega (arith, ints, apart-at s e r p h)
-never-flat s e r p (inr h) =
-    rw (cube-of-sum r p) (size-below (det_of (along (pos r) (pos p) s e)) _
-    (four-below (pos 3 *ℤ det_of (along (pos r) (pos p) s e)) _ _ _ _ (r * r * r) (3 * (p * (r * r))) (3 * (p * p * r)) (p * p * p) (bernstein s e (pos r) (pos p))
-    (times-le (G0 s e) (r * r * r) h.at0) (times3-le (G1 s e) (p * (r * r)) h.at1) (times3-le (G2 s e) (p * p * r) h.at2) (times-le (G3 s e) (p * p * p) h.at3)))
+never-flat s e r p (inl h) = omega (arith, ints, above-at s e r p h)
+never-flat s e r p (inr h) = omega (arith, ints, below-at s e r p h)

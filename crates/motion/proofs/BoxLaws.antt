@@ -1,25 +1,28 @@
--- Box keeps both laws.
-use Rattle.std.proofs.Common.{◌≡◌, ℕ, true, List, [], ◌∷◌, map, ℤ, pos, ◌+ℤ◌, ◌-ℤ◌, neg_ℤ, ◌≤ℤ◌, ◌<ℤ◌, sym, ◌∙◌, ⊎_elim, arith}
+-- Box keeps both laws, and Slab strikes what it strikes.
+use Rattle.std.proofs.Common.{◌≡◌, ◌↔◌, ℕ, ◌<◌, true, ◌||◌, List, [], ◌∷◌, map, ℤ, pos, ◌+ℤ◌, ◌-ℤ◌, ◌<ℤ◌, get_or, sym, ap, ◌∙◌, subst, ⊎_elim, arith}
 use mathlib.Core.Path.{transport}
 use lib.Signed.{lt_z}
 use borrow.Author.Differences.{ints}
 use Rattle.std.specs.Int.{int_min, int_max}
 use Rattle.std.proofs.lemmas.Int.{clamps}
 use Rattle.std.proofs.lemmas.Bool.{or_cases, or_left, or_right}
+use Rattle.std.proofs.lemmas.List.Folds.{list_any_at}
 use Rattle.motion.specs.declared.shapes.V3.{V3}
 use Rattle.motion.specs.declared.shapes.Kind.{Kind}
 use Rattle.motion.specs.declared.shapes.Kind.TheVariants.{Vf, Ee}
 use Rattle.motion.specs.declared.shapes.Moving.{Moving}
 use Rattle.motion.specs.declared.shapes.Shape.{Shape}
-use Rattle.motion.specs.Vectors.{◌+ᵛ◌, ◌-ᵛ◌, ◌·ᵛ◌, dot, vector}
+use Rattle.motion.specs.Vectors.{◌+ᵛ◌, ◌-ᵛ◌, dot, vector, origin}
 use Rattle.motion.specs.Features.{firsts, seconds, first, second}
-use Rattle.motion.specs.Laws.{Valid, Within, Apart, Lawful, at, after, portion, half}
+use Rattle.motion.specs.Laws.{Within, Lawful, portion, half}
 use Rattle.motion.specs.Box.{greatest, least, coordinates, under, parted_on, box_set}
-use Rattle.motion.proofs.Ring.{Exp, var, con, ◌⊕◌, ◌⊗◌, ◌⊖◌, ring}
-use Rattle.motion.proofs.Expressions.{◌+ᵉ◌, ◌-ᵉ◌, ◌·ᵉ◌, dotᵉ, vars, put}
-use Rattle.motion.proofs.Members.{Each, each-map}
-use Rattle.motion.proofs.Separating.{Beyonds, beyonds-apart, opposite, opposite-dot, opposite-within}
-use Rattle.motion.proofs.SlabLaws.{ones-of, others-of}
+use Rattle.motion.specs.Slab.{pairs, above, below, parted_along, directions, slab_set}
+use Rattle.motion.specs.Rows.{IsPartOf}
+use Rattle.motion.proofs.Ring.{◌⊖◌, ring}
+use Rattle.motion.proofs.Expressions.{◌-ᵉ◌, dotᵉ, vars, put}
+use Rattle.motion.proofs.Members.{Each, each-map, each-both, each-swap}
+use Rattle.motion.proofs.Halves.{at_start, at_middle, at_end}
+use Rattle.motion.proofs.SlabLaws.{from-pairs, along-lawful, dot-sum, ones-of, others-of}
 use Rattle.motion.proofs.RowLaws.{row-lawful}
 
 -- an axis is the product with a short direction
@@ -29,197 +32,156 @@ pub record Axis (axis : V3 → ℤ) : Type 0 where
   pub product : (v : V3) → dot way v ≡ axis v
 
 -- ---- products with a direction
-abbrev oneᵉ : Exp
-oneᵉ = con (pos 1)
-
-abbrev noneᵉ : Exp
-noneᵉ = con (pos 0)
-
 product-x : (v : V3) → dot (vector (pos 1) (pos 0) (pos 0)) v ≡ v.x
 unfolding dot
-product-x v = ring (put v []) (oneᵉ ⊗ var 0 ⊕ noneᵉ ⊗ var 1 ⊕ noneᵉ ⊗ var 2) (var 0) tt
+product-x v = omega (arith, ints)
 
 product-y : (v : V3) → dot (vector (pos 0) (pos 1) (pos 0)) v ≡ v.y
 unfolding dot
-product-y v = ring (put v []) (noneᵉ ⊗ var 0 ⊕ oneᵉ ⊗ var 1 ⊕ noneᵉ ⊗ var 2) (var 1) tt
+product-y v = omega (arith, ints)
 
 product-z : (v : V3) → dot (vector (pos 0) (pos 0) (pos 1)) v ≡ v.z
 unfolding dot
-product-z v = ring (put v []) (noneᵉ ⊗ var 0 ⊕ noneᵉ ⊗ var 1 ⊕ oneᵉ ⊗ var 2) (var 2) tt
+product-z v = omega (arith, ints)
 
 pub dot-minus : (d u v : V3) → dot d (u -ᵛ v) ≡ dot d u -ℤ dot d v
 unfolding dot ◌-ᵛ◌
 dot-minus d u v = ring (put d (put u (put v []))) (dotᵉ (vars 0) (vars 3 -ᵉ vars 6)) (dotᵉ (vars 0) (vars 3) ⊖ dotᵉ (vars 0) (vars 6)) tt
 
-module _ (d : V3) (m : Moving) where
-  abbrev ρ : List ℤ
-  ρ = put d (put m.start (put m.end []))
+-- ---- the greatest is less where each is, and the least is more
+greatest-less : (x : ℤ) (xs : List ℤ) (z : ℤ) → (greatest (x ∷ xs) <ℤ z) ↔ Each (λ w. w <ℤ z) (x ∷ xs)
+greatest-less x [] z = (λ h. (h, tt), λ h. h.0)
+greatest-less x (y ∷ ys) z = of-two (greatest (y ∷ ys)) (greatest-less y ys z)
+  where
+    of-two : (g : ℤ) → (g <ℤ z) ↔ Each (λ w. w <ℤ z) (y ∷ ys) → (int_max x g <ℤ z) ↔ ((x <ℤ z) × Each (λ w. w <ℤ z) (y ∷ ys))
+    of-two g r = (λ h. (omega (arith, ints, clamps), r.0 (omega (arith, ints, clamps))), λ (p, q). let o = r.1 q in omega (arith, ints, clamps))
 
-  abbrev mixedᵉ : ℤ → ℤ → Exp
-  mixedᵉ a b = dotᵉ (vars 0) (con a ·ᵉ vars 3 +ᵉ con b ·ᵉ vars 6)
+less-least : (x : ℤ) (xs : List ℤ) (z : ℤ) → (z <ℤ least (x ∷ xs)) ↔ Each (λ w. z <ℤ w) (x ∷ xs)
+less-least x [] z = (λ h. (h, tt), λ h. h.0)
+less-least x (y ∷ ys) z = of-two (least (y ∷ ys)) (less-least y ys z)
+  where
+    of-two : (g : ℤ) → (z <ℤ g) ↔ Each (λ w. z <ℤ w) (y ∷ ys) → (z <ℤ int_min x g) ↔ ((z <ℤ x) × Each (λ w. z <ℤ w) (y ∷ ys))
+    of-two g r = (λ h. (omega (arith, ints, clamps), r.0 (omega (arith, ints, clamps))), λ (p, q). let o = r.1 q in omega (arith, ints, clamps))
 
-  dot-start : dot d (after 1 0 m) ≡ dot d m.start +ℤ dot d m.start
-  unfolding dot ◌+ᵛ◌ ◌·ᵛ◌ at after
-  dot-start = ring ρ (mixedᵉ (pos 2) (pos 0)) (dotᵉ (vars 0) (vars 3) ⊕ dotᵉ (vars 0) (vars 3)) tt
+-- each of the one list is less than each of the other
+abbrev AllLess : List ℤ → List ℤ → Type 0
+AllLess xs ys = Each (λ x. Each (λ y. x <ℤ y) ys) xs
 
-  dot-middle : dot d (after 1 1 m) ≡ dot d m.start +ℤ dot d m.end
-  unfolding dot ◌+ᵛ◌ ◌·ᵛ◌ at after
-  dot-middle = ring ρ (mixedᵉ (pos 1) (pos 1)) (dotᵉ (vars 0) (vars 3) ⊕ dotᵉ (vars 0) (vars 6)) tt
+all-less : (x : ℤ) (xs : List ℤ) (y : ℤ) (ys : List ℤ) → (lt_z (greatest (x ∷ xs)) (least (y ∷ ys)) ≡ true) ↔ AllLess (x ∷ xs) (y ∷ ys)
+all-less x xs y ys = (
+  λ h. each-map (λ w. (less-least y ys w).0) (x ∷ xs) ((greatest-less x xs (least (y ∷ ys))).0 (is-less _ _ h)),
+  λ h. is-true _ _ ((greatest-less x xs (least (y ∷ ys))).1 (each-map (λ w. (less-least y ys w).1) (x ∷ xs) h)),
+)
+  where
+    is-less : (x y : ℤ) → lt_z x y ≡ true → x <ℤ y
+    is-less x y h = omega (arith, ints)
 
-  dot-end : dot d (after 1 2 m) ≡ dot d m.end +ℤ dot d m.end
-  unfolding dot ◌+ᵛ◌ ◌·ᵛ◌ at after
-  dot-end = ring ρ (mixedᵉ (pos 0) (pos 2)) (dotᵉ (vars 0) (vars 6) ⊕ dotᵉ (vars 0) (vars 6)) tt
+    is-true : (x y : ℤ) → x <ℤ y → lt_z x y ≡ true
+    is-true x y h = grind (arith, ints)
 
-sum-below : (x y g z : ℤ) → z ≡ x +ℤ y → x ≤ℤ g → y ≤ℤ g → z ≤ℤ (g +ℤ g)
-sum-below x y g z e p q = omega (arith, ints)
-
-sum-above : (x y g z : ℤ) → z ≡ x +ℤ y → g ≤ℤ x → g ≤ℤ y → (g +ℤ g) ≤ℤ z
-sum-above x y g z e p q = omega (arith, ints)
-
--- ---- the bounds of a feature
 module _ (axis : V3 → ℤ) where
-  abbrev G : List Moving → ℤ
-  G ms = greatest (coordinates axis ms)
+  -- each coordinate of the one feature is less than each of the other
+  abbrev Less : List Moving → List Moving → Type 0
+  Less ms ns = AllLess (coordinates axis ms) (coordinates axis ns)
 
-  abbrev L : List Moving → ℤ
-  L ms = least (coordinates axis ms)
+  under-is : (m : Moving) (ms : List Moving) (n : Moving) (ns : List Moving) → (under axis (m ∷ ms) (n ∷ ns) ≡ true) ↔ Less (m ∷ ms) (n ∷ ns)
+  under-is m ms n ns = all-less (axis m.start) (axis m.end ∷ coordinates axis ms) (axis n.start) (axis n.end ∷ coordinates axis ns)
 
-  abbrev Below : ℤ → Moving → Type 0
-  Below z m = (axis m.start ≤ℤ z) × (axis m.end ≤ℤ z)
+  under-kinds : (k : Kind) (p a b c : Moving)
+      → ((under axis (firsts k p a b c) (seconds k p a b c) ≡ true) ↔ Less (firsts k p a b c) (seconds k p a b c))
+      × ((under axis (seconds k p a b c) (firsts k p a b c) ≡ true) ↔ Less (seconds k p a b c) (firsts k p a b c))
+  under-kinds Vf p a b c = (under-is p [] a (b ∷ c ∷ []), under-is a (b ∷ c ∷ []) p [])
+  under-kinds Ee p a b c = (under-is b (c ∷ []) a (p ∷ []), under-is a (p ∷ []) b (c ∷ []))
 
-  abbrev Above : ℤ → Moving → Type 0
-  Above z m = (z ≤ℤ axis m.start) × (z ≤ℤ axis m.end)
+  -- what holds of all coordinates holds of each point's start and end
+  each-point : (P : ℤ → Type 0) (ms : List Moving) → Each P (coordinates axis ms) → Each (λ m. P (axis m.start) × P (axis m.end)) ms
+  each-point P [] h = tt
+  each-point P (m ∷ ms) (s, (e, h)) = ((s, e), each-point P ms h)
 
-  all-below : (ms : List Moving) → Each (Below (G ms)) ms
-  all-below [] = tt
-  all-below (m ∷ []) = (last (axis m.start) (axis m.end), tt)
+  each-pair : (R : ℤ → ℤ → Type 0) (ms ns : List Moving) → Each (λ x. Each (R x) (coordinates axis ns)) (coordinates axis ms)
+      → Each (λ m. Each (λ n. R (axis m.start) (axis n.start) × R (axis m.end) (axis n.end)) ns) ms
+  each-pair R ms ns h = each-map here ms (each-point (λ x. Each (R x) (coordinates axis ns)) ms h)
     where
-      last : (s e : ℤ) → (s ≤ℤ int_max s e) × (e ≤ℤ int_max s e)
-      last s e = (omega (arith, ints, clamps), omega (arith, ints, clamps))
-  all-below (m ∷ n ∷ ms) = (here (axis m.start) (axis m.end) (G (n ∷ ms)), each-map (λ k b. (more (axis m.start) (axis m.end) (G (n ∷ ms)) _ b.0, more (axis m.start) (axis m.end) (G (n ∷ ms)) _ b.1)) (n ∷ ms) (all-below (n ∷ ms)))
-    where
-      here : (s e g : ℤ) → (s ≤ℤ int_max s (int_max e g)) × (e ≤ℤ int_max s (int_max e g))
-      here s e g = (omega (arith, ints, clamps), omega (arith, ints, clamps))
+      here : (m : Moving) → Each (R (axis m.start)) (coordinates axis ns) × Each (R (axis m.end)) (coordinates axis ns)
+          → Each (λ n. R (axis m.start) (axis n.start) × R (axis m.end) (axis n.end)) ns
+      here m (s, e) =
+          each-map (λ n q. (q.0.0, q.1.1)) ns
+          (each-both (λ n. R (axis m.start) (axis n.start) × R (axis m.start) (axis n.end)) (λ n. R (axis m.end) (axis n.start) × R (axis m.end) (axis n.end)) ns (each-point (R (axis m.start)) ns s) (each-point (R (axis m.end)) ns e))
 
-      more : (s e g z : ℤ) → z ≤ℤ g → z ≤ℤ int_max s (int_max e g)
-      more s e g z h = omega (arith, ints, clamps)
-
-  all-above : (ms : List Moving) → Each (Above (L ms)) ms
-  all-above [] = tt
-  all-above (m ∷ []) = (last (axis m.start) (axis m.end), tt)
-    where
-      last : (s e : ℤ) → (int_min s e ≤ℤ s) × (int_min s e ≤ℤ e)
-      last s e = (omega (arith, ints, clamps), omega (arith, ints, clamps))
-  all-above (m ∷ n ∷ ms) = (here (axis m.start) (axis m.end) (L (n ∷ ms)), each-map (λ k b. (more (axis m.start) (axis m.end) (L (n ∷ ms)) _ b.0, more (axis m.start) (axis m.end) (L (n ∷ ms)) _ b.1)) (n ∷ ms) (all-above (n ∷ ms)))
-    where
-      here : (s e g : ℤ) → (int_min s (int_min e g) ≤ℤ s) × (int_min s (int_min e g) ≤ℤ e)
-      here s e g = (omega (arith, ints, clamps), omega (arith, ints, clamps))
-
-      more : (s e g z : ℤ) → g ≤ℤ z → int_min s (int_min e g) ≤ℤ z
-      more s e g z h = omega (arith, ints, clamps)
-
--- ---- the gap
 module _ (axis : V3 → ℤ) (a : Axis axis) where
+  -- ---- what Box strikes on an axis, Slab strikes along it
   minus-product : (u v : V3) → dot a.way (u -ᵛ v) ≡ axis u -ℤ axis v
   minus-product u v = dot-minus a.way u v ∙ (λ i. a.product u i -ℤ a.product v i)
 
-  -- ns lies below ms
-  over : (ms ns : List Moving) → under axis ns ms ≡ true → Beyonds a.way ms ns
-  over ms ns h =
-      each-map (λ m p. each-map (λ n q. record { at-start = beyond m.start n.start q.0 p.0; at-end = beyond m.end n.end q.1 p.1 }) ns (all-below axis ns)) ms (all-above axis ms)
+  is-below : (u v : V3) → axis u <ℤ axis v → below a.way (u -ᵛ v) ≡ true
+  is-below u v h = go (axis u) (axis v) (dot a.way (u -ᵛ v)) (minus-product u v) h
     where
-      larger : (g l x y z : ℤ) → lt_z g l ≡ true → z ≡ x -ℤ y → y ≤ℤ g → l ≤ℤ x → pos 0 <ℤ z
-      larger g l x y z h e p q = omega (arith, ints)
+      go : (x y z : ℤ) → z ≡ x -ℤ y → x <ℤ y → lt_z z (pos 0) ≡ true
+      go x y z e h = grind (arith, ints)
 
-      beyond : (u v : V3) → axis v ≤ℤ G axis ns → L axis ms ≤ℤ axis u → pos 0 <ℤ dot a.way (u -ᵛ v)
-      beyond u v p q = larger (G axis ns) (L axis ms) (axis u) (axis v) _ h (minus-product u v) p q
-
-  beneath : (ms ns : List Moving) → under axis ms ns ≡ true → Beyonds (opposite a.way) ms ns
-  beneath ms ns h =
-      each-map (λ m p. each-map (λ n q. record { at-start = beyond m.start n.start p.0 q.0; at-end = beyond m.end n.end p.1 q.1 }) ns (all-above axis ns)) ms (all-below axis ms)
+  is-above : (u v : V3) → axis v <ℤ axis u → above a.way (u -ᵛ v) ≡ true
+  is-above u v h = go (axis u) (axis v) (dot a.way (u -ᵛ v)) (minus-product u v) h
     where
-      larger : (g l x y z w : ℤ) → lt_z g l ≡ true → w ≡ neg_ℤ z → z ≡ x -ℤ y → x ≤ℤ g → l ≤ℤ y → pos 0 <ℤ w
-      larger g l x y z w h f e p q = omega (arith, ints)
+      go : (x y z : ℤ) → z ≡ x -ℤ y → y <ℤ x → lt_z (pos 0) z ≡ true
+      go x y z e h = grind (arith, ints)
 
-      beyond : (u v : V3) → axis u ≤ℤ G axis ms → L axis ns ≤ℤ axis v → pos 0 <ℤ dot (opposite a.way) (u -ᵛ v)
-      beyond u v p q = larger (G axis ms) (L axis ns) (axis u) (axis v) (dot a.way (u -ᵛ v)) _ h (opposite-dot a.way (u -ᵛ v)) (minus-product u v) p q
-
-  parted-apart : (t : Shape) → Valid t → parted_on axis t ≡ true → Apart t
-  parted-apart t v h =
+  along : (t : Shape) → parted_on axis t ≡ true → parted_along t a.way ≡ true
+  along t h =
+      let k = under-kinds axis t.kind t.p t.a t.b t.c in
       ⊎_elim
-      (λ e. beyonds-apart t v (opposite a.way) (opposite-within a.way a.within) (beneath (first t) (second t) e))
-      (λ e. beyonds-apart t v a.way a.within (over (first t) (second t) e))
+      (λ e. or_right (pairs (above a.way) t) _ (from-pairs (below a.way) (first t) (second t)
+      (each-map (λ m. each-map (λ n q. (is-below m.start n.start q.0, is-below m.end n.end q.1)) (second t)) (first t)
+      (each-pair axis (λ x y. x <ℤ y) (first t) (second t) (k.0.0 e)))))
+      (λ e. or_left (pairs (above a.way) t) _ (from-pairs (above a.way) (first t) (second t)
+      (each-map (λ m. each-map (λ n q. (is-above m.start n.start q.0, is-above m.end n.end q.1)) (second t)) (first t)
+      (each-pair axis (λ x y. y <ℤ x) (first t) (second t) (each-swap (λ x y. x <ℤ y) (coordinates axis (second t)) (coordinates axis (first t)) (k.1.0 e))))))
       (or_cases (under axis (first t) (second t)) (under axis (second t) (first t)) h)
 
-  -- ---- the halves
-  on-start : (m : Moving) → axis (after 1 0 m) ≡ axis m.start +ℤ axis m.start
-  on-start m = sym (a.product (after 1 0 m)) ∙ dot-start a.way m ∙ (λ i. a.product m.start i +ℤ a.product m.start i)
+  -- ---- in a half each coordinate is the sum of two
+  sum-product : (u v : V3) → axis (u +ᵛ v) ≡ axis u +ℤ axis v
+  sum-product u v = sym (a.product (u +ᵛ v)) ∙ dot-sum a.way u v ∙ (λ i. a.product u i +ℤ a.product v i)
 
-  on-middle : (m : Moving) → axis (after 1 1 m) ≡ axis m.start +ℤ axis m.end
-  on-middle m = sym (a.product (after 1 1 m)) ∙ dot-middle a.way m ∙ (λ i. a.product m.start i +ℤ a.product m.end i)
+  abbrev Sums : (Moving → Moving) → Type 1
+  Sums h = (P Q : ℤ → Type 0) → ((x y : ℤ) → P x → P y → Q (x +ℤ y)) → (m : Moving) → P (axis m.start) → P (axis m.end) → Q (axis (h m).start) × Q (axis (h m).end)
 
-  on-end : (m : Moving) → axis (after 1 2 m) ≡ axis m.end +ℤ axis m.end
-  on-end m = sym (a.product (after 1 2 m)) ∙ dot-end a.way m ∙ (λ i. a.product m.end i +ℤ a.product m.end i)
+  first-sums : Sums (portion 1 0)
+  first-sums P Q f m s e =
+      (subst Q (sym (ap axis (at_start m) ∙ sum-product m.start m.start)) (f _ _ s s), subst Q (sym (ap axis (at_middle m) ∙ sum-product m.start m.end)) (f _ _ s e))
 
-  -- a half reaches no further than twice the whole
-  abbrev Half : (Moving → Moving) → Type 0
-  Half h = (m : Moving) (g : ℤ)
-      → (Below axis g m → Below axis (g +ℤ g) (h m)) × (Above axis g m → Above axis (g +ℤ g) (h m))
+  last-sums : Sums (portion 1 1)
+  last-sums P Q f m s e =
+      (subst Q (sym (ap axis (at_middle m) ∙ sum-product m.start m.end)) (f _ _ s e), subst Q (sym (ap axis (at_end m) ∙ sum-product m.end m.end)) (f _ _ e e))
 
-  first-half : Half (portion 1 0)
-  first-half m g =
-      (λ (s, e). (sum-below _ _ g _ (on-start m) s s, sum-below _ _ g _ (on-middle m) s e), λ (s, e). (sum-above _ _ g _ (on-start m) s s, sum-above _ _ g _ (on-middle m) s e))
+  module _ (h : Moving → Moving) (sums : Sums h) where
+    each-sum : (P Q : ℤ → Type 0) → ((x y : ℤ) → P x → P y → Q (x +ℤ y)) → (ms : List Moving) → Each P (coordinates axis ms) → Each Q (coordinates axis (map h ms))
+    each-sum P Q f [] r = tt
+    each-sum P Q f (m ∷ ms) (s, (e, r)) = let q = sums P Q f m s e in (q.0, (q.1, each-sum P Q f ms r))
 
-  last-half : Half (portion 1 1)
-  last-half m g =
-      (λ (s, e). (sum-below _ _ g _ (on-middle m) s e, sum-below _ _ g _ (on-end m) e e), λ (s, e). (sum-above _ _ g _ (on-middle m) s e, sum-above _ _ g _ (on-end m) e e))
-
-  module _ (h : Moving → Moving) (k : Half h) where
-    greatest-half : (m : Moving) (ms : List Moving) (g : ℤ) → Each (Below axis g) (m ∷ ms) → G axis (map h (m ∷ ms)) ≤ℤ (g +ℤ g)
-    greatest-half m [] g (b, _) = let q = (k m g).0 b in two (axis (h m).start) (axis (h m).end) (g +ℤ g) q.0 q.1
+    keeps : (ms ns : List Moving) → Less axis ms ns → Less axis (map h ms) (map h ns)
+    keeps ms ns = each-sum (λ x. Each (λ z. x <ℤ z) (coordinates axis ns)) (λ x. Each (λ z. x <ℤ z) (coordinates axis (map h ns))) under-both ms
       where
-        two : (s e g : ℤ) → s ≤ℤ g → e ≤ℤ g → int_max s e ≤ℤ g
-        two s e g p q = omega (arith, ints, clamps)
-    greatest-half m (n ∷ ms) g (b, bs) =
-        let q = (k m g).0 b in three (axis (h m).start) (axis (h m).end) (G axis (map h (n ∷ ms))) (g +ℤ g) q.0 q.1 (greatest-half n ms g bs)
-      where
-        three : (s e r g : ℤ) → s ≤ℤ g → e ≤ℤ g → r ≤ℤ g → int_max s (int_max e r) ≤ℤ g
-        three s e r g p q o = omega (arith, ints, clamps)
+        add : (x y z w : ℤ) → (x <ℤ z) × (y <ℤ z) → (x <ℤ w) × (y <ℤ w) → (x +ℤ y) <ℤ (z +ℤ w)
+        add x y z w (p, _) (_, q) = omega (arith, ints)
 
-    least-half : (m : Moving) (ms : List Moving) (g : ℤ) → Each (Above axis g) (m ∷ ms) → (g +ℤ g) ≤ℤ L axis (map h (m ∷ ms))
-    least-half m [] g (b, _) = let q = (k m g).1 b in two (axis (h m).start) (axis (h m).end) (g +ℤ g) q.0 q.1
-      where
-        two : (s e g : ℤ) → g ≤ℤ s → g ≤ℤ e → g ≤ℤ int_min s e
-        two s e g p q = omega (arith, ints, clamps)
-    least-half m (n ∷ ms) g (b, bs) =
-        let q = (k m g).1 b in three (axis (h m).start) (axis (h m).end) (L axis (map h (n ∷ ms))) (g +ℤ g) q.0 q.1 (least-half n ms g bs)
-      where
-        three : (s e r g : ℤ) → g ≤ℤ s → g ≤ℤ e → g ≤ℤ r → g ≤ℤ int_min s (int_min e r)
-        three s e r g p q o = omega (arith, ints, clamps)
+        under-both : (x y : ℤ) → Each (λ z. x <ℤ z) (coordinates axis ns) → Each (λ z. y <ℤ z) (coordinates axis ns) → Each (λ z. (x +ℤ y) <ℤ z) (coordinates axis (map h ns))
+        under-both x y p q =
+            each-sum (λ z. (x <ℤ z) × (y <ℤ z)) (λ z. (x +ℤ y) <ℤ z) (add x y) ns (each-both (λ z. x <ℤ z) (λ z. y <ℤ z) (coordinates axis ns) p q)
 
-    under-half : (m : Moving) (ms : List Moving) (n : Moving) (ns : List Moving) → under axis (m ∷ ms) (n ∷ ns) ≡ true → under axis (map h (m ∷ ms)) (map h (n ∷ ns)) ≡ true
-    under-half m ms n ns e =
-        doubled (G axis (m ∷ ms)) (L axis (n ∷ ns)) _ _ e (greatest-half m ms (G axis (m ∷ ms)) (all-below axis (m ∷ ms))) (least-half n ns (L axis (n ∷ ns)) (all-above axis (n ∷ ns)))
-      where
-        doubled : (g l g' l' : ℤ) → lt_z g l ≡ true → g' ≤ℤ (g +ℤ g) → (l +ℤ l) ≤ℤ l' → lt_z g' l' ≡ true
-        doubled g l g' l' e p q = grind (arith, ints)
-
-    under-kinds : (kind : Kind) (p a b c : Moving)
-        → (under axis (firsts kind p a b c) (seconds kind p a b c) ≡ true → under axis (map h (firsts kind p a b c)) (map h (seconds kind p a b c)) ≡ true)
-        × (under axis (seconds kind p a b c) (firsts kind p a b c) ≡ true → under axis (map h (seconds kind p a b c)) (map h (firsts kind p a b c)) ≡ true)
-    under-kinds Vf p a b c = (under-half p [] a (b ∷ c ∷ []), under-half a (b ∷ c ∷ []) p [])
-    under-kinds Ee p a b c = (under-half b (c ∷ []) a (p ∷ []), under-half a (p ∷ []) b (c ∷ []))
-
-  parted-half : (t : Shape) (j : ℕ) → Half (portion 1 j) → parted_on axis t ≡ true → parted_on axis (half j t) ≡ true
-  parted-half t j k h =
-      let q = under-kinds (portion 1 j) k t.kind t.p t.a t.b t.c in
+  parted-half : (t : Shape) (j : ℕ) → Sums (portion 1 j) → parted_on axis t ≡ true → parted_on axis (half j t) ≡ true
+  parted-half t j s h =
+      let q = under-kinds axis t.kind t.p t.a t.b t.c in
+      let r = under-kinds axis t.kind (portion 1 j t.p) (portion 1 j t.a) (portion 1 j t.b) (portion 1 j t.c) in
       ⊎_elim
-      (λ e. or_left (under axis (first (half j t)) (second (half j t))) _ (transport (λ i. under axis (ones-of t j i) (others-of t j i) ≡ true) (q.0 e)))
-      (λ e. or_right (under axis (first (half j t)) (second (half j t))) _ (transport (λ i. under axis (others-of t j i) (ones-of t j i) ≡ true) (q.1 e)))
+      (λ e. or_left (under axis (first (half j t)) (second (half j t))) _ (r.0.1 (transport (λ i. Less axis (ones-of t j i) (others-of t j i)) (keeps (portion 1 j) s (first t) (second t) (q.0.0 e)))))
+      (λ e. or_right (under axis (first (half j t)) (second (half j t))) _ (r.1.1 (transport (λ i. Less axis (others-of t j i) (ones-of t j i)) (keeps (portion 1 j) s (second t) (first t) (q.1.0 e)))))
       (or_cases (under axis (first t) (second t)) (under axis (second t) (first t)) h)
 
   axis-lawful : Lawful (parted_on axis)
-  axis-lawful = record { apart = parted-apart; halves = λ t v k h. (parted-half t 0 first-half h, parted-half t 1 last-half h) }
+  axis-lawful =
+      record {
+        apart = λ t v h. (along-lawful a.way a.within).apart t v (along t h);
+        halves = λ t v k h. (parted-half t 0 first-sums h, parted-half t 1 last-sums h);
+      }
 
 -- ---- the three axes
 abbrev x : V3 → ℤ
@@ -242,3 +204,15 @@ on-z = record { way = vector (pos 0) (pos 0) (pos 1); within = search arith; pro
 
 pub box-lawful : Lawful box_set
 box-lawful = row-lawful (row-lawful (axis-lawful x on-x) (axis-lawful y on-y)) (axis-lawful z on-z)
+
+-- they are the first three of Slab's directions
+pub box-in-slab : IsPartOf box_set slab_set
+unfolding on-x on-y on-z
+box-in-slab t h =
+    ⊎_elim
+    (λ e. ⊎_elim (λ f. here 0 (omega arith) (along x on-x t f)) (λ f. here 1 (omega arith) (along y on-y t f)) (or_cases (parted_on x t) (parted_on y t) e))
+    (λ f. here 2 (omega arith) (along z on-z t f))
+    (or_cases (parted_on x t || parted_on y t) (parted_on z t) h)
+  where
+    here : (k : ℕ) → k < 13 → parted_along t (get_or directions k origin) ≡ true → slab_set t ≡ true
+    here k = list_any_at (parted_along t) directions k origin

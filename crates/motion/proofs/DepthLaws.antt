@@ -2,7 +2,7 @@
 use Rattle.std.proofs.Common.{◌≡◌, ℕ, zero, suc, ◌+◌, ◌-◌, ◌^◌, ◌≤◌, Bool, true, false, ◌&&◌, sym, refl, ap, ◌∙◌, subst, arith}
 use Rattle.std.proofs.lemmas.Bool.{and_parts, and_from}
 use Rattle.motion.specs.declared.shapes.Shape.{Shape}
-use Rattle.motion.specs.Laws.{Valid, Apart, Lawful, subinterval, half}
+use Rattle.motion.specs.Laws.{Valid, gap, Apart, Lawful, subinterval, half}
 use Rattle.motion.specs.Depths.{every, struck_at, Struck}
 use Rattle.motion.proofs.Subintervals.{twice, in-first, in-last, whole, valid-first, valid-last}
 use Rattle.motion.proofs.HalvesApart.{halves-apart}
@@ -56,7 +56,7 @@ module _ (set : Shape → Bool) (l : Lawful set) where
   struck-apart (suc d) t v k h =
       let c : t.scale ≤ 5 = omega arith in
       let s = and_parts (struck_at set d (half 0 t)) (struck_at set d (half 1 t)) (sym (struck-step set d t) ∙ h) in
-      halves-apart t (struck-apart d (half 0 t) (valid-first t v c) (omega arith) s.0) (struck-apart d (half 1 t) (valid-last t v c) (omega arith) s.1)
+      halves-apart gap t (struck-apart d (half 0 t) (valid-first t v c) (omega arith) s.0) (struck-apart d (half 1 t) (valid-last t v c) (omega arith) s.1)
 
   one-deeper : (d : ℕ) (t : Shape) → Valid t → t.scale + suc d ≤ 6 → struck_at set d t ≡ true → struck_at set (suc d) t ≡ true
   one-deeper zero t v k h = whole-struck 1 t v k (sym (struck-whole set t) ∙ h)

@@ -5,7 +5,7 @@ use native.Mathlib.Decide.{dec_le}
 use borrow.Author.Differences.{ints}
 use Rattle.motion.specs.declared.shapes.V3.{V3}
 use Rattle.motion.specs.Vectors.{dot, cross}
-use Rattle.motion.specs.Laws.{Within, Far, on-x, on-y, on-z}
+use Rattle.motion.specs.Laws.{Within, FarBy, on-x, on-y, on-z, gap}
 
 -- ---- |·| of a sum, a difference and a product
 pub abs-neg : (a : ℤ) → nat_abs (neg_ℤ a) ≡ nat_abs a
@@ -57,21 +57,21 @@ cube : (q : ℕ) → q ^ 3 ≡ q * q * q
 cube q = pow-suc q 2 ∙ ap (λ (n : ℕ). n * q) (pow-suc q 1 ∙ ap (λ (n : ℕ). n * q) (pow-suc q 0 ∙ ap (λ (n : ℕ). n * q) (pow-zero q)) ∙ omega arith)
 
 -- ---- far on some axis, where it is impossible that all three are near
-module _ (k n : ℕ) (v : V3) where
-  choose : (nat_abs v.x * 2 ^ 49 ≤ 2 ^ k * n → nat_abs v.y * 2 ^ 49 ≤ 2 ^ k * n → nat_abs v.z * 2 ^ 49 ≤ 2 ^ k * n → ⊥)
-      → Dec (2 ^ k * n ≤ nat_abs v.x * 2 ^ 49) → Dec (2 ^ k * n ≤ nat_abs v.y * 2 ^ 49) → Dec (2 ^ k * n ≤ nat_abs v.z * 2 ^ 49) → Far k n v
+module _ (g k n : ℕ) (v : V3) where
+  choose : (nat_abs v.x * 2 ^ 49 ≤ g * 2 ^ k * n → nat_abs v.y * 2 ^ 49 ≤ g * 2 ^ k * n → nat_abs v.z * 2 ^ 49 ≤ g * 2 ^ k * n → ⊥)
+      → Dec (g * 2 ^ k * n ≤ nat_abs v.x * 2 ^ 49) → Dec (g * 2 ^ k * n ≤ nat_abs v.y * 2 ^ 49) → Dec (g * 2 ^ k * n ≤ nat_abs v.z * 2 ^ 49) → FarBy g k n v
   choose no-way (yes h) d e = on-x h
   choose no-way (no f) (yes h) e = on-y h
-  choose no-way (no f) (no g) (yes h) = on-z h
-  choose no-way (no f) (no g) (no h) = absurd (no-way (omega arith) (omega arith) (omega arith))
+  choose no-way (no f) (no e) (yes h) = on-z h
+  choose no-way (no f) (no e) (no h) = absurd (no-way (omega arith) (omega arith) (omega arith))
 
-  far : (nat_abs v.x * 2 ^ 49 ≤ 2 ^ k * n → nat_abs v.y * 2 ^ 49 ≤ 2 ^ k * n → nat_abs v.z * 2 ^ 49 ≤ 2 ^ k * n → ⊥) → Far k n v
+  far : (nat_abs v.x * 2 ^ 49 ≤ g * 2 ^ k * n → nat_abs v.y * 2 ^ 49 ≤ g * 2 ^ k * n → nat_abs v.z * 2 ^ 49 ≤ g * 2 ^ k * n → ⊥) → FarBy g k n v
   far no-way = choose no-way (dec_le _ _) (dec_le _ _) (dec_le _ _)
 
 -- ---- by the normal of two short vectors
 module _ (A L q x y z l m n d : ℕ) where
   too-near : A ≤ 64 → 1 ≤ L * (q * q * q) → l + m + n ≤ 6 * (8192 * A * q * (8192 * A * q)) → d ≤ x * l + y * m + z * n → L * (q * q * q) ≤ 3 * d
-      → x * 2 ^ 49 ≤ A * (L * q) → y * 2 ^ 49 ≤ A * (L * q) → z * 2 ^ 49 ≤ A * (L * q) → ⊥
+      → x * 2 ^ 49 ≤ gap * A * (L * q) → y * 2 ^ 49 ≤ gap * A * (L * q) → z * 2 ^ 49 ≤ gap * A * (L * q) → ⊥
   too-near a one s dd big hx hy hz =
       let t : ℕ = A * (L * q) in
       let s1 : 2 ^ 49 * d ≤ t * (l + m + n) = omega (arith, mul-le-mul_right l hx, mul-le-mul_right m hy, mul-le-mul_right n hz) in
@@ -81,9 +81,9 @@ module _ (A L q x y z l m n d : ℕ) where
       omega arith
 
 pub far-by-normal : (k L q : ℕ) (a b v : V3) → k ≤ 6 → 1 ≤ L → 1 ≤ q → Within (8192 * 2 ^ k * q) a → Within (8192 * 2 ^ k * q) b
-    → L * q ^ 3 ≤ 3 * nat_abs (dot v (cross a b)) → Far k (L * q) v
+    → L * q ^ 3 ≤ 3 * nat_abs (dot v (cross a b)) → FarBy gap k (L * q) v
 far-by-normal k L q a b v hk hL hq f g big =
-    far k (L * q) v
+    far gap k (L * q) v
     (too-near (2 ^ k) L q (nat_abs v.x) (nat_abs v.y) (nat_abs v.z) (nat_abs (cross a b).x) (nat_abs (cross a b).y) (nat_abs (cross a b).z) (nat_abs (dot v (cross a b)))
     (pow_mono hk) (mul-pos hL (mul-pos (mul-pos hq hq) hq)) (cross-small (8192 * 2 ^ k * q) a b f g)
     (dot-small v (cross a b)) (subst (λ (n : ℕ). L * n ≤ 3 * nat_abs (dot v (cross a b))) (cube q) big))
@@ -91,12 +91,12 @@ far-by-normal k L q a b v hk hL hq f g big =
 -- ---- by a direction with no entry past 1
 module _ (A n x y z i j l s : ℕ) where
   beside : A ≤ 64 → 1 ≤ n → i ≤ 1 → j ≤ 1 → l ≤ 1 → s ≤ i * x + j * y + l * z → n ≤ s
-      → x * 2 ^ 49 ≤ A * n → y * 2 ^ 49 ≤ A * n → z * 2 ^ 49 ≤ A * n → ⊥
+      → x * 2 ^ 49 ≤ gap * A * n → y * 2 ^ 49 ≤ gap * A * n → z * 2 ^ 49 ≤ gap * A * n → ⊥
   beside a one hi hj hl hs hn hx hy hz =
       omega (arith, mul-le-mul_right x hi, mul-le-mul_right y hj, mul-le-mul_right z hl, mul-le-mul_right n a)
 
-pub far-along : (k n : ℕ) (d v : V3) → k ≤ 6 → 1 ≤ n → Within 1 d → n ≤ nat_abs (dot d v) → Far k n v
+pub far-along : (k n : ℕ) (d v : V3) → k ≤ 6 → 1 ≤ n → Within 1 d → n ≤ nat_abs (dot d v) → FarBy gap k n v
 far-along k n d v hk hn w big =
-    far k n v
+    far gap k n v
     (beside (2 ^ k) n (nat_abs v.x) (nat_abs v.y) (nat_abs v.z) (nat_abs d.x) (nat_abs d.y) (nat_abs d.z) (nat_abs (dot d v))
     (pow_mono hk) hn w.0 w.1 w.2 (dot-small d v) big)

@@ -9,7 +9,7 @@ use Rattle.motion.specs.declared.shapes.Moving.{Moving}
 use Rattle.motion.specs.declared.shapes.Shape.{Shape}
 use Rattle.motion.specs.Vectors.{◌+ᵛ◌, ◌-ᵛ◌, ◌·ᵛ◌, origin}
 use Rattle.motion.specs.Features.{firsts, seconds, first, second}
-use Rattle.motion.specs.Laws.{Far, on-x, on-y, on-z, Apart, Weights, at, after, portion, half, weighted, total, difference}
+use Rattle.motion.specs.Laws.{FarBy, on-x, on-y, on-z, ApartAt, ApartBy, at, after, portion, half, weighted, total, difference}
 use Rattle.motion.proofs.Ring.{Exp, var, con, ◌⊕◌, ◌⊗◌, ◌⊖◌, ring}
 use Rattle.motion.proofs.Gaps.{abs-mul}
 use Rattle.motion.proofs.SlabLaws.{ones-of, others-of}
@@ -83,19 +83,19 @@ module _ (f g : Moving → V3) (h : Moving → Moving) (same : (m : Moving) → 
       ∙ doubled-minus (total us) (total ws) (weighted ws (map g ms)) (weighted us (map g ns))
 
 -- ---- what is far on the finer grid is far on the coarser
-coarser : (k n : ℕ) (x : ℤ) → 2 ^ (k + 1) * n ≤ nat_abs (pos 2 *ℤ x) * 2 ^ 49 → 2 ^ k * n ≤ nat_abs x * 2 ^ 49
-coarser k n x h =
+coarser : (g k n : ℕ) (x : ℤ) → g * 2 ^ (k + 1) * n ≤ nat_abs (pos 2 *ℤ x) * 2 ^ 49 → g * 2 ^ k * n ≤ nat_abs x * 2 ^ 49
+coarser g k n x h =
     let f : 2 ^ (k + 1) ≡ 2 ^ k * 2 = ap (λ (n : ℕ). 2 ^ n) (add-one k) ∙ pow-suc 2 k in
-    omega (arith, abs-mul (pos 2) x, ap (λ (m : ℕ). m * n) f)
+    omega (arith, abs-mul (pos 2) x, ap (λ (m : ℕ). g * m * n) f)
   where
     add-one : (k : ℕ) → k + 1 ≡ suc k
     add-one k = omega arith
 
-far-coarser : (k n : ℕ) (v : V3) → Far (k + 1) n (pos 2 ·ᵛ v) → Far k n v
+far-coarser : (g k n : ℕ) (v : V3) → FarBy g (k + 1) n (pos 2 ·ᵛ v) → FarBy g k n v
 unfolding ◌·ᵛ◌
-far-coarser k n v (on-x h) = on-x (coarser k n v.x h)
-far-coarser k n v (on-y h) = on-y (coarser k n v.y h)
-far-coarser k n v (on-z h) = on-z (coarser k n v.z h)
+far-coarser g k n v (on-x h) = on-x (coarser g k n v.x h)
+far-coarser g k n v (on-y h) = on-y (coarser g k n v.y h)
+far-coarser g k n v (on-z h) = on-z (coarser g k n v.z h)
 
 -- ---- weights of a half are weights of the whole
 module _ (g : Moving → Moving) (p a b c : Moving) where
@@ -107,20 +107,20 @@ module _ (g : Moving → Moving) (p a b c : Moving) where
   as-many-seconds Vf = refl
   as-many-seconds Ee = refl
 
-module _ (t : Shape) (j p p' q : ℕ) (same : (m : Moving) → at p' q (portion 1 j m) ≡ pos 2 ·ᵛ at p q m) where
+module _ (g : ℕ) (t : Shape) (j p p' q : ℕ) (same : (m : Moving) → at p' q (portion 1 j m) ≡ pos 2 ·ᵛ at p q m) where
   abbrev n : List ℕ → List ℕ → ℕ
   n ws us = total ws * total us * q
 
-  by-half : Apart (half j t) → 1 ≤ q → p' ≤ q → (ws us : List ℕ) → Weights ws (first t) → Weights us (second t) → Far t.scale (n ws us) (difference p q ws (first t) us (second t))
+  by-half : ApartBy g (half j t) → 1 ≤ q → p' ≤ q → ApartAt g p q t
   by-half h hq hp ws us (lw, hw) (lu, hu) =
-      far-coarser t.scale (n ws us) (difference p q ws (first t) us (second t))
-      (subst (λ (v : V3). Far (t.scale + 1) (n ws us) v)
+      far-coarser g t.scale (n ws us) (difference p q ws (first t) us (second t))
+      (subst (λ (v : V3). FarBy g (t.scale + 1) (n ws us) v)
       ((λ i. difference p' q ws (sym (ones-of t j) i) us (sym (others-of t j) i)) ∙ difference-doubled (at p' q) (at p q) (portion 1 j) same ws us (first t) (second t))
       (h p' q hq hp ws us (lw ∙ as-many-firsts (portion 1 j) t.p t.a t.b t.c t.kind, hw) (lu ∙ as-many-seconds (portion 1 j) t.p t.a t.b t.c t.kind, hu)))
 
-pub halves-apart : (t : Shape) → Apart (half 0 t) → Apart (half 1 t) → Apart t
-halves-apart t f g p q hq hp = go (dec_le (2 * p) q)
+pub halves-apart : (g : ℕ) (t : Shape) → ApartBy g (half 0 t) → ApartBy g (half 1 t) → ApartBy g t
+halves-apart g t first last p q hq hp = go (dec_le (2 * p) q)
   where
-    go : Dec (2 * p ≤ q) → (ws us : List ℕ) → Weights ws (first t) → Weights us (second t) → Far t.scale (total ws * total us * q) (difference p q ws (first t) us (second t))
-    go (yes h) = by-half t 0 p (2 * p) q (first-at p q) f hq h
-    go (no h) = by-half t 1 p (2 * p - q) q (last-at p q (omega arith)) g hq (omega arith)
+    go : Dec (2 * p ≤ q) → ApartAt g p q t
+    go (yes h) = by-half g t 0 p (2 * p) q (first-at p q) first hq h
+    go (no h) = by-half g t 1 p (2 * p - q) q (last-at p q (omega arith)) last hq (omega arith)

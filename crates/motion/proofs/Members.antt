@@ -11,6 +11,15 @@ pub each-map : {A : Type 0} {P Q : A → Type 0} → ((x : A) → P x → Q x) �
 each-map f [] h = tt
 each-map f (x ∷ xs) (p, h) = (f x p, each-map f xs h)
 
+pub each-both : {A : Type 0} (P Q : A → Type 0) (xs : List A) → Each P xs → Each Q xs → Each (λ x. P x × Q x) xs
+each-both P Q [] h k = tt
+each-both P Q (x ∷ xs) (p, h) (q, k) = ((p, q), each-both P Q xs h k)
+
+pub each-swap : {A B : Type 0} (R : A → B → Type 0) (xs : List A) (ys : List B) → Each (λ x. Each (λ y. R x y) ys) xs → Each (λ y. Each (λ x. R x y) xs) ys
+each-swap R [] [] h = tt
+each-swap R [] (y ∷ ys) h = (tt, each-swap R [] ys h)
+each-swap R (x ∷ xs) ys (p, h) = each-both (R x) (λ y. Each (λ z. R z y) xs) ys p (each-swap R xs ys h)
+
 pub all-to-each : {A : Type 0} (f : A → Bool) (xs : List A) → list_all f xs ≡ true → Each (λ x. f x ≡ true) xs
 all-to-each f [] h = tt
 all-to-each f (x ∷ xs) h = let p = and_parts (f x) (list_all f xs) h in (p.0, all-to-each f xs p.1)

@@ -1,5 +1,5 @@
 -- Where a moving point is on its way: r of r + p parts are left, p are past.
-use Rattle.std.proofs.Common.{◌≡◌, ℕ, ◌+◌, ◌*◌, ◌^◌, ◌≤◌, [], ◌∷◌, ℤ, pos, ◌+ℤ◌, ◌-ℤ◌, ◌*ℤ◌, nat_abs, ap, mul-le-mul_left, arith}
+use Rattle.std.proofs.Common.{◌≡◌, ℕ, ◌+◌, ◌-◌, ◌*◌, ◌^◌, ◌≤◌, [], ◌∷◌, ℤ, pos, ◌+ℤ◌, ◌-ℤ◌, ◌*ℤ◌, nat_abs, sym, ap, subst, mul-le-mul_left, arith}
 use borrow.Author.Differences.{ints}
 use Rattle.motion.specs.declared.shapes.V3.{V3}
 use Rattle.motion.specs.declared.shapes.Moving.{Moving}
@@ -20,6 +20,13 @@ left-over r p = omega (arith, ints)
 pub at-place : (r p : ℕ) (m : Moving) → at p (r + p) m ≡ place (pos r) (pos p) m
 unfolding at place
 at-place r p m = ap (λ (z : ℤ). z ·ᵛ m.start +ᵛ pos p ·ᵛ m.end) (left-over r p)
+
+-- what holds wherever r parts are left and p are past holds at every fraction
+pub at-fractions : (P : ℕ → ℕ → Type 0) → ((r p : ℕ) → P p (r + p)) → (p q : ℕ) → p ≤ q → P p q
+at-fractions P f p q h = subst (P p) back (f (q - p) p)
+  where
+    back : q - p + p ≡ q
+    back = omega arith
 
 -- ---- sizes
 pub between : (B r p : ℕ) (s e : ℤ) → nat_abs s ≤ B → nat_abs e ≤ B → nat_abs (pos r *ℤ s +ℤ pos p *ℤ e) ≤ B * (r + p)
@@ -46,6 +53,10 @@ module _ (k r p : ℕ) where
   pub short : (m n : Moving) → InReach k m → InReach k n → Within (8192 * 2 ^ k * (r + p)) (place (pos r) (pos p) m -ᵛ place (pos r) (pos p) n)
   short m n f g =
       within-minus (4096 * 2 ^ k * (r + p)) (8192 * 2 ^ k * (r + p)) (place (pos r) (pos p) m) (place (pos r) (pos p) n) (omega arith) (within-place m f) (within-place n g)
+
+pub within-at : (k : ℕ) (m : Moving) → InReach k m → (p q : ℕ) → p ≤ q → Within (4096 * 2 ^ k * q) (at p q m)
+within-at k m f =
+    at-fractions (λ p q. Within (4096 * 2 ^ k * q) (at p q m)) (λ r p. subst (Within (4096 * 2 ^ k * (r + p))) (sym (at-place r p m)) (within-place k r p m f))
 
 -- ---- the determinant on the way is the one of the places
 abbrev placeᵉ : E3 → E3 → E3

@@ -1,7 +1,7 @@
 -- Plane keeps both laws.
-use Rattle.std.proofs.Common.{◌≡◌, ℕ, ◌+◌, ◌-◌, ◌*◌, ◌^◌, ◌≤◌, true, List, [], ◌∷◌, map, ℤ, pos, ◌*ℤ◌, nat_abs, sym, ap, ◌∙◌, subst, ⊎_elim, mul-le-mul_left, mul-pos, pow-suc, arith}
-use native.Mathlib.Nat.{pow-zero}
+use Rattle.std.proofs.Common.{◌≡◌, ℕ, ◌+◌, ◌*◌, ◌^◌, ◌≤◌, true, List, [], ◌∷◌, map, ℤ, pos, neg_ℤ, ◌*ℤ◌, ◌≤ℤ◌, nat_abs, sym, ap, ◌∙◌, subst, inl, inr, ⊎_elim, mul-le-mul_left, mul-pos, arith}
 use mathlib.Core.Path.{transport}
+use Rattle.std.proofs.lemmas.Bool.{or_cases}
 use Rattle.motion.specs.declared.shapes.V3.{V3}
 use Rattle.motion.specs.declared.shapes.Kind.{Kind}
 use Rattle.motion.specs.declared.shapes.Kind.TheVariants.{Vf, Ee}
@@ -9,16 +9,16 @@ use Rattle.motion.specs.declared.shapes.Moving.{Moving}
 use Rattle.motion.specs.declared.shapes.Shape.{Shape}
 use Rattle.motion.specs.Vectors.{◌-ᵛ◌, ◌·ᵛ◌, dot, cross}
 use Rattle.motion.specs.Features.{firsts, seconds, first, second}
-use Rattle.motion.specs.Laws.{Valid, Far, Apart, Lawful, Weights, weighted, total, difference, half}
-use Rattle.motion.specs.Plane.{plane_set, NeverCoplanar, volume_at}
-use Rattle.motion.proofs.Determinants.{det, det_of, seen, at_start, at_end, Above, Below, IsOneSigned, sum}
+use Rattle.motion.specs.Laws.{Valid, FarBy, ApartAt, gap, Apart, Lawful, Weights, weighted, total, half}
+use Rattle.motion.specs.Plane.{controls, all_above, all_below, plane_set, volume_at, StaysAbove, StaysBelow, NeverCoplanar}
+use Rattle.motion.proofs.Determinants.{det, det_of, along, seen, at_start, at_end, Above, Below, IsOneSigned, sum}
 use Rattle.motion.proofs.Gaps.{abs-mul, abs-neg, far-by-normal}
-use Rattle.motion.proofs.Bernstein.{never-flat}
+use Rattle.motion.proofs.Bernstein.{above-at, below-at, never-flat}
 use Rattle.motion.proofs.Weights.{face_difference, edge_difference, weighted-face, weighted-edge}
-use Rattle.motion.proofs.Places.{place, at-place, short, on-the-way}
+use Rattle.motion.proofs.Places.{place, at-place, at-fractions, short, on-the-way}
 use Rattle.motion.proofs.ControlHalves.{halves-keep}
 use Rattle.motion.proofs.Halves.{minus-start, minus-middle, minus-end}
-use Rattle.motion.proofs.Signs.{one-sign, struck-above, struck-below}
+use Rattle.motion.proofs.Signs.{above, below, one-sign, struck-above, struck-below}
 
 -- ---- the gap
 -- the product with the normal is ±i·j times the determinant
@@ -39,7 +39,7 @@ module _ (t : Shape) (r p : ℕ) (v : Valid t) (hq : 1 ≤ r + p) (sign : IsOneS
   large = rw (on-the-way (pos r) (pos p) t) (never-flat (at_start t) (at_end t) r p sign)
 
   face-far : (i j k l : ℕ) → 1 ≤ i + 0 → 1 ≤ j + (k + (l + 0))
-      → Far t.scale ((i + 0) * (j + (k + (l + 0))) * (r + p)) (face_difference (here t.p) (here t.a) (here t.b) (here t.c) i j k l)
+      → FarBy gap t.scale ((i + 0) * (j + (k + (l + 0))) * (r + p)) (face_difference (here t.p) (here t.a) (here t.b) (here t.c) i j k l)
   face-far i j k l hi hj =
       far-by-normal t.scale ((i + 0) * (j + (k + (l + 0)))) (r + p) (here t.b -ᵛ here t.a) (here t.c -ᵛ here t.a) _ v.0 (mul-pos hi hj) hq
       (short t.scale r p t.b t.a v.3 v.2) (short t.scale r p t.c t.a v.4 v.2)
@@ -48,7 +48,7 @@ module _ (t : Shape) (r p : ℕ) (v : Valid t) (hq : 1 ≤ r + p) (sign : IsOneS
       (ap nat_abs (weighted-face (here t.p) (here t.a) (here t.b) (here t.c) i j k l) ∙ sized (i + 0) (j + (k + (l + 0))) volume))
 
   edge-far : (i j k l : ℕ) → 1 ≤ i + (j + 0) → 1 ≤ k + (l + 0)
-      → Far t.scale ((i + (j + 0)) * (k + (l + 0)) * (r + p)) (edge_difference (here t.p) (here t.a) (here t.b) (here t.c) i j k l)
+      → FarBy gap t.scale ((i + (j + 0)) * (k + (l + 0)) * (r + p)) (edge_difference (here t.p) (here t.a) (here t.b) (here t.c) i j k l)
   edge-far i j k l hi hk =
       far-by-normal t.scale ((i + (j + 0)) * (k + (l + 0))) (r + p) (here t.p -ᵛ here t.a) (here t.c -ᵛ here t.b) _ v.0 (mul-pos hi hk) hq
       (short t.scale r p t.p t.a v.1 v.2) (short t.scale r p t.c t.b v.4 v.3)
@@ -67,7 +67,7 @@ module _ (t : Shape) (r p : ℕ) (v : Valid t) (hq : 1 ≤ r + p) (sign : IsOneS
   others k = seconds k t.p t.a t.b t.c
 
   all-far : (kind : Kind) (ws us : List ℕ) → Weights ws (ones kind) → Weights us (others kind)
-      → Far t.scale (total ws * total us * (r + p)) (between here ws (ones kind) us (others kind))
+      → FarBy gap t.scale (total ws * total us * (r + p)) (between here ws (ones kind) us (others kind))
   all-far Vf (i ∷ []) (j ∷ k ∷ l ∷ []) (_, hi) (_, hj) = face-far i j k l hi hj
   all-far Vf [] us (e, _) _ = absurd (omega arith)
   all-far Vf (i ∷ i' ∷ ws) us (e, _) _ = absurd (omega arith)
@@ -83,19 +83,13 @@ module _ (t : Shape) (r p : ℕ) (v : Valid t) (hq : 1 ≤ r + p) (sign : IsOneS
   all-far Ee (i ∷ j ∷ []) (k ∷ []) _ (e, _) = absurd (omega arith)
   all-far Ee (i ∷ j ∷ []) (k ∷ l ∷ m ∷ us) _ (e, _) = absurd (omega arith)
 
-  far-then : (ws us : List ℕ) → Weights ws (first t) → Weights us (second t)
-      → Far t.scale (total ws * total us * (r + p)) (difference p (r + p) ws (first t) us (second t))
-  far-then ws us hw hu =
-      subst (λ (f : Moving → V3). Far t.scale (total ws * total us * (r + p)) (between f ws (first t) us (second t)))
+  apart-at : ApartAt gap p (r + p) t
+  apart-at ws us hw hu =
+      subst (λ (f : Moving → V3). FarBy gap t.scale (total ws * total us * (r + p)) (between f ws (first t) us (second t)))
       (λ i m. sym (at-place r p m) i) (all-far t.kind ws us hw hu)
 
-back : (p q : ℕ) → p ≤ q → q - p + p ≡ q
-back p q h = omega arith
-
 plane-apart : (t : Shape) → Valid t → plane_set t ≡ true → Apart t
-plane-apart t v h p q hq hp =
-    subst (λ (q : ℕ). (ws us : List ℕ) → Weights ws (first t) → Weights us (second t) → Far t.scale (total ws * total us * q) (difference p q ws (first t) us (second t)))
-    (back p q hp) (far-then t (q - p) p v (omega arith) (one-sign t h))
+plane-apart t v h p q hq hp = at-fractions (λ p q. 1 ≤ q → ApartAt gap p q t) (λ r p k. apart-at t r p v k (one-sign t h)) p q hp hq
 
 -- ---- the halves
 module _ (t : Shape) where
@@ -128,24 +122,26 @@ pub plane-lawful : Lawful plane_set
 plane-lawful = record { apart = plane-apart; halves = λ t v k h. plane-halves t h }
 
 -- ---- never in one plane
-no-cube : (n : ℕ) → n ^ 3 ≤ 3 * nat_abs (pos 0) → 1 ≤ n → ⊥
-no-cube n h k = omega (arith, mul-pos (mul-pos k k) k, cubed n)
-  where
-    cubed : (n : ℕ) → n ^ 3 ≡ n * n * n
-    cubed n = pow-suc n 2 ∙ ap (λ (k : ℕ). k * n) (pow-suc n 1 ∙ ap (λ (k : ℕ). k * n) (pow-suc n 0 ∙ ap (λ (k : ℕ). k * n) (pow-zero n) ∙ omega arith))
+module _ (t : Shape) where
+  abbrev volume_along : ℕ → ℕ → ℤ
+  volume_along r p = det_of (along (pos r) (pos p) (at_start t) (at_end t))
 
-abbrev volume_of : V3 → V3 → V3 → V3 → ℤ
-volume_of p a b c = det_of (seen p a b c)
-
-module _ (t : Shape) (h : plane_set t ≡ true) where
-  flat-at : (r p : ℕ) → 1 ≤ r + p → volume_of (place (pos r) (pos p) t.p) (place (pos r) (pos p) t.a) (place (pos r) (pos p) t.b) (place (pos r) (pos p) t.c) ≡ pos 0 → ⊥
-  flat-at r p hq e =
-      no-cube (r + p) (subst (λ (z : ℤ). (r + p) ^ 3 ≤ 3 * nat_abs z) (sym (on-the-way (pos r) (pos p) t) ∙ e) (never-flat (at_start t) (at_end t) r p (one-sign t h))) hq
-
-  same-volume : (r p : ℕ) → volume_at p (r + p) t ≡ volume_of (place (pos r) (pos p) t.p) (place (pos r) (pos p) t.a) (place (pos r) (pos p) t.b) (place (pos r) (pos p) t.c)
+  at-places : (r p : ℕ) → volume_at p (r + p) t ≡ volume_along r p
   unfolding seen det
-  same-volume r p = λ i. volume_of (at-place r p t.p i) (at-place r p t.a i) (at-place r p t.b i) (at-place r p t.c i)
+  at-places r p = (λ i. det_of (seen (at-place r p t.p i) (at-place r p t.a i) (at-place r p t.b i) (at-place r p t.c i))) ∙ on-the-way (pos r) (pos p) t
+
+  -- what holds of the volume and of q when r of q parts are left, p past, holds at the fraction p/q
+  on-fractions : (P : ℤ → ℕ → Type 0) → ((r p : ℕ) → P (volume_along r p) (r + p)) → (p q : ℕ) → p ≤ q → P (volume_at p q t) q
+  on-fractions P f = at-fractions (λ p q. P (volume_at p q t) q) (λ r p. subst (λ (z : ℤ). P z (r + p)) (sym (at-places r p)) (f r p))
+
+  pub stays-above : all_above (controls t) ≡ true → StaysAbove t
+  stays-above h =
+      on-fractions (λ v q. pos (q ^ 3) ≤ℤ (pos 3 *ℤ v)) (λ r p. above-at (at_start t) (at_end t) r p (above t h))
+
+  pub stays-below : all_below (controls t) ≡ true → StaysBelow t
+  stays-below h =
+      on-fractions (λ v q. (pos 3 *ℤ v) ≤ℤ neg_ℤ (pos (q ^ 3))) (λ r p. below-at (at_start t) (at_end t) r p (below t h))
 
 pub never-coplanar : NeverCoplanar
-never-coplanar t h p q hq hp e =
-    flat-at t h (q - p) p (omega arith) (sym (same-volume t h (q - p) p) ∙ subst (λ (n : ℕ). volume_at p n t ≡ pos 0) (sym (back p q hp)) e)
+never-coplanar t h =
+    ⊎_elim (λ e. inl (stays-above t e)) (λ e. inr (stays-below t e)) (or_cases (all_above (controls t)) (all_below (controls t)) h)

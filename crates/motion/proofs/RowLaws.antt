@@ -1,12 +1,12 @@
 -- A row of two sets that keep the laws keeps them.
-use Rattle.std.proofs.Common.{Bool, ⊎_elim}
+use Rattle.std.proofs.Common.{ℕ, Bool, ⊎_elim}
 use Rattle.std.proofs.lemmas.Bool.{or_cases, or_left, or_right}
 use Rattle.motion.specs.declared.shapes.Shape.{Shape}
-use Rattle.motion.specs.Laws.{Lawful, half}
+use Rattle.motion.specs.Laws.{LawfulBy, half}
 use Rattle.motion.specs.Rows.{row}
 
-pub row-lawful : {f g : Shape → Bool} → Lawful f → Lawful g → Lawful (row f g)
-row-lawful {f} {g} p q =
+pub row-lawful : {n : ℕ} {f g : Shape → Bool} → LawfulBy n f → LawfulBy n g → LawfulBy n (row f g)
+row-lawful {n} {f} {g} p q =
     record {
       apart = λ t v h. ⊎_elim (p.apart t v) (q.apart t v) (or_cases (f t) (g t) h);
       halves = λ t v k h.

@@ -1,16 +1,16 @@
 -- A direction along which each point of one feature stays beyond each of the other keeps any two
 -- points of theirs apart.
-use Rattle.std.proofs.Common.{◌≡◌, ℕ, ◌+◌, ◌-◌, ◌*◌, ◌≤◌, List, [], ◌∷◌, map, length, ℤ, pos, negsuc, ◌+ℤ◌, ◌*ℤ◌, neg_ℤ, nat_abs, ◌≤ℤ◌, ◌<ℤ◌, sym, subst, mul-le-mul_right, mul-pos, arith}
+use Rattle.std.proofs.Common.{◌≡◌, ℕ, ◌+◌, ◌*◌, ◌≤◌, List, [], ◌∷◌, map, length, ℤ, pos, negsuc, ◌+ℤ◌, ◌*ℤ◌, neg_ℤ, nat_abs, ◌≤ℤ◌, ◌<ℤ◌, sym, subst, mul-le-mul_right, mul-pos, arith}
 use borrow.Author.Differences.{ints}
 use Rattle.motion.specs.declared.shapes.V3.{V3}
 use Rattle.motion.specs.declared.shapes.Moving.{Moving}
 use Rattle.motion.specs.declared.shapes.Shape.{Shape}
 use Rattle.motion.specs.Vectors.{◌+ᵛ◌, ◌-ᵛ◌, ◌·ᵛ◌, dot, origin}
 use Rattle.motion.specs.Features.{first, second}
-use Rattle.motion.specs.Laws.{Valid, Within, Far, Apart, Weights, weighted, total, difference}
+use Rattle.motion.specs.Laws.{Valid, Within, FarBy, ApartAt, gap, Apart, weighted, total}
 use Rattle.motion.proofs.Ring.{var, con, ◌⊕◌, ◌⊗◌, opp, ring}
 use Rattle.motion.proofs.Expressions.{◌+ᵉ◌, ◌-ᵉ◌, ◌·ᵉ◌, dotᵉ, vars, originᵉ, put}
-use Rattle.motion.proofs.Places.{place, at-place}
+use Rattle.motion.proofs.Places.{place, at-place, at-fractions}
 use Rattle.motion.proofs.Gaps.{abs-neg, far-along}
 use Rattle.motion.proofs.Members.{Each}
 
@@ -93,14 +93,10 @@ module _ (d : V3) (r p : ℕ) where
 size : (n : ℕ) (z : ℤ) → pos n ≤ℤ z → n ≤ nat_abs z
 size n z h = omega (arith, ints)
 
-back : (p q : ℕ) → p ≤ q → q - p + p ≡ q
-back p q h = omega arith
-
 module _ (t : Shape) (v : Valid t) (d : V3) (w : Within 1 d) (b : Beyonds d (first t) (second t)) where
-  apart-at : (r p : ℕ) → 1 ≤ r + p → (ws us : List ℕ) → Weights ws (first t) → Weights us (second t)
-      → Far t.scale (total ws * total us * (r + p)) (difference p (r + p) ws (first t) us (second t))
+  apart-at : (r p : ℕ) → 1 ≤ r + p → ApartAt gap p (r + p) t
   apart-at r p hq ws us hw hu =
-      subst (λ (f : Moving → V3). Far t.scale (total ws * total us * (r + p)) (pos (total us) ·ᵛ weighted ws (map f (first t)) -ᵛ pos (total ws) ·ᵛ weighted us (map f (second t))))
+      subst (λ (f : Moving → V3). FarBy gap t.scale (total ws * total us * (r + p)) (pos (total us) ·ᵛ weighted ws (map f (first t)) -ᵛ pos (total ws) ·ᵛ weighted us (map f (second t))))
       (λ i m. sym (at-place r p m) i)
       (far-along t.scale (total ws * total us * (r + p)) d _ v.0 (mul-pos (mul-pos hw.1 hu.1) hq) w
       (regroup (total ws) (total us) (r + p) _ (size _ _ (all-far d r p ws us (first t) (second t) hw.0 hu.0 b))))
@@ -109,9 +105,7 @@ module _ (t : Shape) (v : Valid t) (d : V3) (w : Within 1 d) (b : Beyonds d (fir
       regroup i j q n h = omega arith
 
   pub beyonds-apart : Apart t
-  beyonds-apart p q hq hp =
-      subst (λ (q : ℕ). (ws us : List ℕ) → Weights ws (first t) → Weights us (second t) → Far t.scale (total ws * total us * q) (difference p q ws (first t) us (second t)))
-      (back p q hp) (apart-at (q - p) p (omega arith))
+  beyonds-apart p q hq hp = at-fractions (λ p q. 1 ≤ q → ApartAt gap p q t) apart-at p q hp hq
 
 -- ---- the direction turned round
 abbrev pub opposite : V3 → V3

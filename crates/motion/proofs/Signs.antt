@@ -31,12 +31,12 @@ tells-below : (x y : ℤ) → x ≡ y → y <ℤ pos 0 → lt_z x (pos 0) ≡ tr
 tells-below x y e h = grind (arith, ints)
 
 module _ (t : Shape) where
-  above : all_above (controls t) ≡ true → Above (at_start t) (at_end t)
+  pub above : all_above (controls t) ≡ true → Above (at_start t) (at_end t)
   above h =
       let f = four _ _ _ _ h in
       record { at0 = is-above _ _ (g0-is t) f.0; at1 = is-above _ _ (g1-is t) f.1; at2 = is-above _ _ (g2-is t) f.2; at3 = is-above _ _ (g3-is t) f.3 }
 
-  below : all_below (controls t) ≡ true → Below (at_start t) (at_end t)
+  pub below : all_below (controls t) ≡ true → Below (at_start t) (at_end t)
   below h =
       let f = four _ _ _ _ h in
       record { at0 = is-below _ _ (g0-is t) f.0; at1 = is-below _ _ (g1-is t) f.1; at2 = is-below _ _ (g2-is t) f.2; at3 = is-below _ _ (g3-is t) f.3 }

@@ -31,7 +31,7 @@ module _ (f : V3 → Bool) where
   to-pairs : (ms ns : List Moving) → list_all (λ m. list_all (both m) ns) ms ≡ true → Pairs f ms ns
   to-pairs ms ns h = each-map (λ m q. each-map (λ n s. and_parts _ _ s) ns (all-to-each (both m) ns q)) ms (all-to-each (λ m. list_all (both m) ns) ms h)
 
-  from-pairs : (ms ns : List Moving) → Pairs f ms ns → list_all (λ m. list_all (both m) ns) ms ≡ true
+  pub from-pairs : (ms ns : List Moving) → Pairs f ms ns → list_all (λ m. list_all (both m) ns) ms ≡ true
   from-pairs ms ns h = each-to-all (λ m. list_all (both m) ns) ms (each-map (λ m q. each-to-all (both m) ns (each-map (λ n s. and_from _ _ s.0 s.1) ns q)) ms h)
 
 -- ---- the gap
@@ -55,7 +55,7 @@ beyond-below d ms ns h = each-map (λ m q. each-map (λ n s. record { at-start =
 abbrev Adds : (V3 → Bool) → Type 0
 Adds f = (u v : V3) → f u ≡ true → f v ≡ true → f (u +ᵛ v) ≡ true
 
-dot-sum : (d u v : V3) → dot d (u +ᵛ v) ≡ dot d u +ℤ dot d v
+pub dot-sum : (d u v : V3) → dot d (u +ᵛ v) ≡ dot d u +ℤ dot d v
 unfolding dot ◌+ᵛ◌
 dot-sum d u v = ring (put d (put u (put v []))) (dotᵉ (vars 0) (vars 3 +ᵉ vars 6)) (dotᵉ (vars 0) (vars 3) ⊕ dotᵉ (vars 0) (vars 6)) tt
 
@@ -118,7 +118,7 @@ module _ (d : V3) (w : Within 1 d) where
         halves = λ t v k h. pairs-halves t (below d) (below-adds d) h;
       }
 
-  along-lawful : Lawful (λ t. parted_along t d)
+  pub along-lawful : Lawful (λ t. parted_along t d)
   along-lawful = row-lawful above-lawful below-lawful
 
 -- ---- the directions

@@ -1,13 +1,14 @@
--- A subinterval of a half is a subinterval of the whole; a half of a test within its bounds is
--- within its own.
-use Rattle.std.proofs.Common.{◌≡◌, ℕ, suc, ◌+◌, ◌*◌, ◌^◌, ◌≤◌, [], ◌∷◌, ℤ, pos, ◌+ℤ◌, ◌-ℤ◌, ◌*ℤ◌, nat_abs, refl, ap, ◌∙◌, add_assoc, mul_comm, pow-suc, arith}
-use Rattle.motion.specs.declared.shapes.V3.{V3}
+-- A subinterval of a half is a subinterval of the whole; a subinterval of a test within its bounds
+-- is within its own.
+use Rattle.std.proofs.Common.{◌≡◌, ℕ, suc, ◌+◌, ◌*◌, ◌^◌, ◌<◌, ◌≤◌, [], ◌∷◌, ℤ, pos, ◌+ℤ◌, ◌-ℤ◌, ◌*ℤ◌, ap, ◌∙◌, subst, add_assoc, mul_comm, pow-suc, arith}
+use Rattle.std.proofs.lemmas.Nat.{pow-add}
+use borrow.Author.Differences.{ints}
 use Rattle.motion.specs.declared.shapes.Moving.{Moving}
 use Rattle.motion.specs.declared.shapes.Shape.{Shape}
 use Rattle.motion.specs.Vectors.{◌+ᵛ◌, ◌·ᵛ◌}
 use Rattle.motion.specs.Laws.{Valid, Within, InReach, at, after, portion, subinterval, half}
 use Rattle.motion.proofs.Ring.{Exp, var, con, ◌⊕◌, ◌⊗◌, ◌⊖◌, ring}
-use Rattle.motion.proofs.Places.{between}
+use Rattle.motion.proofs.Places.{within-at}
 
 -- ---- a subinterval of a half
 -- s: 0; e: 1; H, i and j: 2 to 4
@@ -83,10 +84,10 @@ in-last t d j = ap (λ k. subinterval (suc d) k t) same ∙ nested-subinterval t
 
 -- ---- the whole is its only subinterval of depth 0
 whole-at : (s e : ℤ) → pos 1 *ℤ s +ℤ pos 0 *ℤ e ≡ s
-whole-at s e = ring (s ∷ e ∷ []) (con (pos 1) ⊗ var 0 ⊕ con (pos 0) ⊗ var 1) (var 0) tt
+whole-at s e = omega (arith, ints)
 
 end-at : (s e : ℤ) → pos 0 *ℤ s +ℤ pos 1 *ℤ e ≡ e
-end-at s e = ring (s ∷ e ∷ []) (con (pos 0) ⊗ var 0 ⊕ con (pos 1) ⊗ var 1) (var 1) tt
+end-at s e = omega (arith, ints)
 
 whole-portion : (m : Moving) → portion 0 0 m ≡ m
 unfolding after at ◌+ᵛ◌ ◌·ᵛ◌
@@ -111,31 +112,21 @@ whole t =
     same k = omega arith
 
 -- ---- bounds
--- r and p of two parts
-module _ (k r p : ℕ) (two : r + p ≡ 2) where
-  reach : (s e : ℤ) → nat_abs s ≤ 4096 * 2 ^ k → nat_abs e ≤ 4096 * 2 ^ k → nat_abs (pos r *ℤ s +ℤ pos p *ℤ e) ≤ 4096 * 2 ^ (k + 1)
-  reach s e hs he =
-      let b = between (4096 * 2 ^ k) r p s e hs he in
-      let f : 2 ^ (k + 1) ≡ 2 ^ k * 2 = ap (λ (n : ℕ). 2 ^ n) (add-one k) ∙ pow-suc 2 k in
-      omega (arith, ap (λ (n : ℕ). 4096 * 2 ^ k * n) two)
-    where
-      add-one : (k : ℕ) → k + 1 ≡ suc k
-      add-one k = omega arith
+reach-after : (k h j : ℕ) → j ≤ 2 ^ h → (m : Moving) → InReach k m → Within (4096 * 2 ^ (k + h)) (after h j m)
+unfolding after
+reach-after k h j le m r = subst (λ (B : ℕ). Within B (at j (2 ^ h) m)) finer (within-at k m r j (2 ^ h) le)
+  where
+    finer : 4096 * 2 ^ k * 2 ^ h ≡ 4096 * 2 ^ (k + h)
+    finer = omega (arith, pow-add 2 k h)
 
-  reach-all : (u v : V3) → Within (4096 * 2 ^ k) u → Within (4096 * 2 ^ k) v → Within (4096 * 2 ^ (k + 1)) (pos r ·ᵛ u +ᵛ pos p ·ᵛ v)
-  unfolding ◌+ᵛ◌ ◌·ᵛ◌
-  reach-all u v f g = (reach u.x v.x f.0 g.0, reach u.y v.y f.1 g.1, reach u.z v.z f.2 g.2)
-
-pub reach-first : (k : ℕ) (m : Moving) → InReach k m → InReach (k + 1) (portion 1 0 m)
-unfolding after at
-reach-first k m (s, e) = (reach-all k 2 0 refl m.start m.end s e, reach-all k 1 1 refl m.start m.end s e)
-
-pub reach-last : (k : ℕ) (m : Moving) → InReach k m → InReach (k + 1) (portion 1 1 m)
-unfolding after at
-reach-last k m (s, e) = (reach-all k 1 1 refl m.start m.end s e, reach-all k 0 2 refl m.start m.end s e)
+pub valid-subinterval : (t : Shape) → Valid t → (h j : ℕ) → t.scale + h ≤ 6 → j < 2 ^ h → Valid (subinterval h j t)
+valid-subinterval t (_, p, a, b, c) h j room lt = (room, reach t.p p, reach t.a a, reach t.b b, reach t.c c)
+  where
+    reach : (m : Moving) → InReach t.scale m → InReach (t.scale + h) (portion h j m)
+    reach m r = (reach-after t.scale h j (omega arith) m r, reach-after t.scale h (j + 1) (omega arith) m r)
 
 pub valid-first : (t : Shape) → Valid t → t.scale ≤ 5 → Valid (half 0 t)
-valid-first t (k, p, a, b, c) h = (omega arith, reach-first t.scale t.p p, reach-first t.scale t.a a, reach-first t.scale t.b b, reach-first t.scale t.c c)
+valid-first t v h = valid-subinterval t v 1 0 (omega arith) (omega arith)
 
 pub valid-last : (t : Shape) → Valid t → t.scale ≤ 5 → Valid (half 1 t)
-valid-last t (k, p, a, b, c) h = (omega arith, reach-last t.scale t.p p, reach-last t.scale t.a a, reach-last t.scale t.b b, reach-last t.scale t.c c)
+valid-last t v h = valid-subinterval t v 1 1 (omega arith) (omega arith)

@@ -1,12 +1,14 @@
 -- The window: what it says of a test, for any set, and how it comes from those of the halves.
-use Rattle.std.proofs.Common.{◌≡◌, ℕ, zero, suc, ◌+◌, ◌-◌, ◌^◌, ◌<◌, Bool, true, false, cond, ◌&&◌, Option, Some, None, is_none, sym, refl, ap, ◌∙◌, subst, arith}
+use Rattle.std.proofs.Common.{◌≡◌, ℕ, zero, suc, ◌+◌, ◌-◌, ◌^◌, ◌<◌, ◌≤◌, Bool, true, false, cond, ◌&&◌, ◌⊎◌, Option, Some, None, is_none, sym, refl, ap, ◌∙◌, subst, ⊎_elim, arith}
+use native.Mathlib.Decide.{dec_le}
 use Rattle.std.specs.Option.{option_or, option_zip, option_map}
 use Rattle.std.proofs.lemmas.Option.{none-some, same_Some, some_pair_parts}
-use Rattle.std.proofs.lemmas.Bool.{and_from}
+use Rattle.std.proofs.lemmas.Bool.{and_parts, and_from}
 use Rattle.motion.specs.declared.shapes.Shape.{Shape}
-use Rattle.motion.specs.Laws.{subinterval, half}
-use Rattle.motion.specs.Depths.{every, struck_at, IsWindow, first_lacking, last_lacking, first_passed, last_passed, window_at, FindsWindow}
-use Rattle.motion.proofs.Subintervals.{twice, in-first, in-last, whole}
+use Rattle.motion.specs.Laws.{Valid, Apart, Lawful, subinterval, half}
+use Rattle.motion.specs.Depths.{every, struck_at, IsWindow, first_lacking, last_lacking, first_passed, last_passed, window_at, WindowMeans, FindsWindow}
+use Rattle.motion.proofs.Subintervals.{twice, in-first, in-last, whole, valid-subinterval}
+use Rattle.motion.proofs.DepthLaws.{struck}
 
 -- ---- none is lacking exactly where f holds at every number
 none-or : (o : Option ℕ) (b : Bool) (n : ℕ) → is_none (option_or o (cond b None (Some n))) ≡ (is_none o && b)
@@ -195,3 +197,29 @@ module _ (set : Shape → Bool) where
   pub last-within : (d : ℕ) (t : Shape) (j : ℕ) → last_passed set d t ≡ Some j → j < 2 ^ d
   unfolding last_passed
   last-within d t j s = (last-is (λ k. set (subinterval d k t)) (2 ^ d) j s).within
+
+-- ---- what the window means, for a set that keeps the laws
+every-at : (f : ℕ → Bool) (n k : ℕ) → k < n → every f n ≡ true → f k ≡ true
+every-at f zero k h e = absurd (omega arith)
+every-at f (suc n) k h e = let p = and_parts (every f n) (f n) e in go (dec_le n k) p.1 (λ r. every-at f n k r p.0)
+  where
+    go : Dec (n ≤ k) → f n ≡ true → (k < n → f k ≡ true) → f k ≡ true
+    go (yes q) r s = let same : k ≡ n = omega arith in ap f same ∙ r
+    go (no q) r s = s (omega arith)
+
+module _ (set : Shape → Bool) (l : Lawful set) (d : ℕ) (t : Shape) (v : Valid t) (room : t.scale + d ≤ 6) where
+  abbrev part : ℕ → Bool
+  part n = set (subinterval d n t)
+
+  outside : (i j : ℕ) → IsWindow set d t i j → (n : ℕ) → n < 2 ^ d → (n < i) ⊎ (j < n) → Apart (subinterval d n t)
+  outside i j w n h o = l.apart (subinterval d n t) (valid-subinterval t v d n room h) (⊎_elim early late o)
+    where
+      early : n < i → part n ≡ true
+      early e = every-at part i n e w.before
+
+      late : j < n → part n ≡ true
+      late e = let same : n ≡ suc j + (n - suc j) = omega arith in ap part same ∙ every-at (λ k. part (suc j + k)) (2 ^ d - suc j) (n - suc j) (omega arith) w.beyond
+
+  pub window-means : (w : Option (ℕ × ℕ)) → w ≡ window_at set d t → WindowMeans set d t w
+  window-means None e = struck set l d t v room ((finds-window set d t).none.0 (sym e))
+  window-means (Some (i, j)) e = let w = (finds-window set d t).some i j (sym e) in record { is = w; apart = outside i j w }

@@ -2,13 +2,13 @@
 use Rattle.std.proofs.Common.{◌≡◌, [], ◌∷◌, pos, negsuc, map, refl, arith}
 use Rattle.motion.specs.Vectors.{◌+ᵛ◌, ◌-ᵛ◌, ◌·ᵛ◌, dot, cross}
 use Rattle.motion.specs.Features.{first, second}
-use Rattle.motion.specs.Laws.{Apart, Far, on-x, on-y, on-z, at, after, difference}
+use Rattle.motion.specs.Laws.{Apart, gap, FarBy, on-x, on-y, on-z, at, after, difference}
 use Rattle.motion.specs.Plane.{controls}
 use Rattle.motion.specs.Depths.{struck_at, first_passed, last_passed, window_at}
 use Rattle.motion.specs.Cases.{crossing, values, worked_tests, Cases}
 
 -- at 1/2 the point is the mean of the corners with the weights 2, 1, 1
-at-half : Far 0 8 (difference 1 2 (1 ∷ []) (first crossing) (2 ∷ 1 ∷ 1 ∷ []) (second crossing)) → ⊥
+at-half : FarBy gap 0 8 (difference 1 2 (1 ∷ []) (first crossing) (2 ∷ 1 ∷ 1 ∷ []) (second crossing)) → ⊥
 unfolding ◌+ᵛ◌ ◌-ᵛ◌ ◌·ᵛ◌ at
 at-half (on-x h) = omega arith
 at-half (on-y h) = omega arith

@@ -1,5 +1,5 @@
 -- Struck at a depth, and the window.
-use Rattle.std.specs.Prelude.{◌≡◌, ◌↔◌, ℕ, zero, suc, ◌+◌, ◌-◌, ◌^◌, ◌<◌, ◌≤◌, Bool, true, ◌&&◌, if◌then◌else◌, Option, Some, None, IsTrue}
+use Rattle.std.specs.Prelude.{◌≡◌, ◌↔◌, ℕ, zero, suc, ◌+◌, ◌-◌, ◌^◌, ◌<◌, ◌≤◌, Bool, true, ◌&&◌, ◌⊎◌, if◌then◌else◌, Option, Some, None, MatchOption, IsTrue}
 use Rattle.std.specs.Bool.{IsFalse}
 use Rattle.std.specs.Option.{option_or, option_zip}
 use Rattle.motion.specs.declared.shapes.Shape.{Shape}
@@ -27,6 +27,15 @@ pub record IsWindow (set : Shape → Bool) (d : ℕ) (t : Shape) (i j : ℕ) : T
   pub before : IsTrue (every (λ n. set (subinterval d n t)) i)
   pub last : IsFalse (set (subinterval d j t))
   pub beyond : IsTrue (every (λ n. set (subinterval d (suc j + n) t)) (2 ^ d - suc j))
+
+-- what it owes to the laws: in each subinterval before i or after j the features stay apart
+pub record Window (set : Shape → Bool) (d : ℕ) (t : Shape) (i j : ℕ) : Type 0 where
+  pub is : IsWindow set d t i j
+  pub apart : (n : ℕ) → n < 2 ^ d → (n < i) ⊎ (j < n) → Apart (subinterval d n t)
+
+-- with no window the test is struck
+abbrev pub WindowMeans : (Shape → Bool) → ℕ → Shape → Option (ℕ × ℕ) → Type 0
+WindowMeans set d t w = MatchOption w (Struck set d t) (λ (i, j). Window set d t i j)
 
 -- the least number below n at which f does not hold
 abbrev pub first_lacking : (ℕ → Bool) → ℕ → Option ℕ

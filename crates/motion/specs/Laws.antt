@@ -39,11 +39,11 @@ abbrev pub Weights : List ℕ → List Moving → Type 0
 Weights ws ms = (length ws ≡ length ms) × (1 ≤ total ws)
 
 -- v is n times a difference of two points, on a grid 2^k times as fine:
--- it is at least 2^k/2^49 on some axis
-pub data Far (k n : ℕ) (v : V3) : Type 0 where
-  on-x : 2 ^ k * n ≤ unsigned_abs v.x * 2 ^ 49 → Far k n v
-  on-y : 2 ^ k * n ≤ unsigned_abs v.y * 2 ^ 49 → Far k n v
-  on-z : 2 ^ k * n ≤ unsigned_abs v.z * 2 ^ 49 → Far k n v
+-- it is at least g·2^k/2^49 on some axis
+pub data FarBy (g k n : ℕ) (v : V3) : Type 0 where
+  on-x : g * 2 ^ k * n ≤ unsigned_abs v.x * 2 ^ 49 → FarBy g k n v
+  on-y : g * 2 ^ k * n ≤ unsigned_abs v.y * 2 ^ 49 → FarBy g k n v
+  on-z : g * 2 ^ k * n ≤ unsigned_abs v.z * 2 ^ 49 → FarBy g k n v
 
 -- at the fraction p/q, the point of ms with the weights ws less the one of ns with the weights us,
 -- times q and both sums
@@ -52,12 +52,22 @@ difference p q ws ms us ns =
     pos (total us) ·ᵛ weighted ws (map (at p q) ms)
     -ᵛ pos (total ws) ·ᵛ weighted us (map (at p q) ns)
 
--- at every fraction of the step any point of the one feature is far from any of the other
+-- at the fraction p/q any point of the one feature is that far from any of the other
+abbrev pub ApartAt : ℕ → ℕ → ℕ → Shape → Type 0
+ApartAt g p q t =
+    (ws us : List ℕ) → Weights ws (first t) → Weights us (second t)
+    → FarBy g t.scale (total ws * total us * q) (difference p q ws (first t) us (second t))
+
+-- and so at every fraction of the step
+abbrev pub ApartBy : ℕ → Shape → Type 0
+ApartBy g t = (p q : ℕ) → 1 ≤ q → p ≤ q → ApartAt g p q t
+
+-- the gap that a filter owes: 1/2^49 of a unit
+abbrev pub gap : ℕ
+gap = 1
+
 abbrev pub Apart : Shape → Type 0
-Apart t =
-    (p q : ℕ) → 1 ≤ q → p ≤ q
-    → (ws us : List ℕ) → Weights ws (first t) → Weights us (second t)
-    → Far t.scale (total ws * total us * q) (difference p q ws (first t) us (second t))
+Apart = ApartBy gap
 
 -- ---- subintervals: part j of the 2^h equal ones of the step, on a grid 2^h times as fine
 unfoldable pub after : ℕ → ℕ → Moving → V3
@@ -82,8 +92,11 @@ abbrev pub half : ℕ → Shape → Shape
 half j t = subinterval 1 j t
 
 -- ---- the two laws of a filter's set
-pub record Lawful (set : Shape → Bool) : Type 0 where
-  pub apart : (t : Shape) → Valid t → IsTrue (set t) → Apart t
+pub record LawfulBy (g : ℕ) (set : Shape → Bool) : Type 0 where
+  pub apart : (t : Shape) → Valid t → IsTrue (set t) → ApartBy g t
   pub halves :
       (t : Shape) → Valid t → t.scale ≤ 5 → IsTrue (set t)
       → IsTrue (set (half 0 t)) × IsTrue (set (half 1 t))
+
+abbrev pub Lawful : (Shape → Bool) → Type 0
+Lawful = LawfulBy gap

@@ -1,5 +1,5 @@
 -- Plane: the four values of the non-coplanarity test have one sign.
-use Rattle.std.specs.Prelude.{◌≡◌, ℕ, ◌≤◌, Bool, ◌&&◌, ◌||◌, ℤ, pos, ◌+ℤ◌, ◌*ℤ◌, int_lt, IsTrue}
+use Rattle.std.specs.Prelude.{ℕ, ◌^◌, ◌≤◌, Bool, ◌&&◌, ◌||◌, ◌⊎◌, ℤ, pos, neg_ℤ, ◌+ℤ◌, ◌*ℤ◌, ◌≤ℤ◌, int_lt, IsTrue}
 use Rattle.motion.specs.declared.shapes.V3.{V3}
 use Rattle.motion.specs.declared.shapes.Moving.{Moving}
 use Rattle.motion.specs.declared.shapes.Shape.{Shape}
@@ -70,9 +70,14 @@ abbrev pub volume_at : ℕ → ℕ → Shape → ℤ
 volume_at p q t =
     dot (at p q t.p -ᵛ at p q t.a) (normal (at p q t.a) (at p q t.b) (at p q t.c))
 
--- the non-coplanarity theorem:
--- what the rule strikes has its four points in one plane at no fraction of the step
+-- at every fraction of the step six times the volume is at least 1/3, or at most −1/3;
+-- it changes continuously, so it is so at every moment, and the four points are never in one plane
+abbrev pub StaysAbove : Shape → Type 0
+StaysAbove t = (p q : ℕ) → p ≤ q → pos (q ^ 3) ≤ℤ (pos 3 *ℤ volume_at p q t)
+
+abbrev pub StaysBelow : Shape → Type 0
+StaysBelow t = (p q : ℕ) → p ≤ q → (pos 3 *ℤ volume_at p q t) ≤ℤ neg_ℤ (pos (q ^ 3))
+
+-- the non-coplanarity theorem: the point keeps to its side of the plane of the other three
 abbrev pub NeverCoplanar : Type 0
-NeverCoplanar =
-    (t : Shape) → IsTrue (plane_set t)
-    → (p q : ℕ) → 1 ≤ q → p ≤ q → ¬ (volume_at p q t ≡ pos 0)
+NeverCoplanar = (t : Shape) → IsTrue (plane_set t) → StaysAbove t ⊎ StaysBelow t

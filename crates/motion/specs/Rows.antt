@@ -1,9 +1,13 @@
--- Filters in a row.
-use Rattle.std.specs.Prelude.{Bool, ◌||◌}
+-- Sets of tests side by side: one that is part of another, and filters in a row.
+use Rattle.std.specs.Prelude.{Bool, ◌||◌, IsTrue}
 use Rattle.motion.specs.declared.shapes.Shape.{Shape}
 use Rattle.motion.specs.Box.{box_set}
 use Rattle.motion.specs.Slab.{slab_set}
 use Rattle.motion.specs.Plane.{plane_set}
+
+-- whatever f strikes, g strikes
+abbrev pub IsPartOf : (Shape → Bool) → (Shape → Bool) → Type 0
+IsPartOf f g = (t : Shape) → IsTrue (f t) → IsTrue (g t)
 
 -- a row of two strikes exactly when one of them does
 abbrev pub row : (Shape → Bool) → (Shape → Bool) → Shape → Bool

@@ -5,13 +5,15 @@ ghost use Rattle.motion.specs.Laws.{Lawful};
 ghost use Rattle.motion.specs.Box.{box_set};
 ghost use Rattle.motion.specs.Slab.{slab_set, ListsAllDirections};
 ghost use Rattle.motion.specs.Plane.{controls, plane_set, NeverCoplanar};
+ghost use Rattle.motion.specs.Rows.{IsPartOf};
 ghost use Rattle.motion.specs.Depths.{FindsWindow};
 ghost use Rattle.motion.specs.Cases.{values, worked_tests, Cases};
 
 use crate::shapes::Controls;
 
-/// The sets of the three delivered filters keep both laws, what Plane strikes is never in one
-/// plane, and Slab's directions are the ones that its rule describes.
+/// The sets of the three delivered filters keep both laws, what Plane strikes keeps to its side and
+/// is never in one plane, Slab's directions are the ones that its rule describes, and it strikes
+/// whatever Box strikes.
 ///
 /// For any set, the window is the first and the last subinterval that it lacks, and there is none
 /// exactly where it has them all (`windows`).
@@ -21,6 +23,7 @@ pub fn laws_hold()
     ensures planes { Lawful plane_set }
     ensures never_coplanar { NeverCoplanar }
     ensures directions { ListsAllDirections }
+    ensures box_in_slab { IsPartOf box_set slab_set }
     ensures windows { (set : Shape → Bool) → (d : ℕ) → (t : Shape) → FindsWindow set d t }
 {}
 

@@ -1,7 +1,7 @@
 // The window of an entry.
 ghost use Rattle.std.specs.Prelude.{◌≡◌, Some, slice_get, IfOk};
 ghost use Rattle.sheet.specs.Checks.{first_fit, fault_notice};
-ghost use Rattle.motion.specs.Depths.{window_at};
+ghost use Rattle.motion.specs.Depths.{window_at, WindowMeans};
 ghost use Rattle.inspection.specs.Faults.{notice_of_window};
 ghost use Rattle.inspection.specs.Sheets.{sheet_of_rows, sheet_in};
 ghost use Rattle.inspection.specs.Lists.{contents_of, entries};
@@ -20,6 +20,9 @@ impl<F: Filter> Inspection<F> {
     /// The first and the last of the 2^depth parts of the step, from 0, that the filter passes of
     /// an entry's test, at the depth now set; none where it strikes each. `entry` counts from 0.
     /// `points` and `faces` are the sheet's tables, and may have more rows than it.
+    ///
+    /// In each part before the first and after the last the entry's features stay apart; where
+    /// there is no window, they do so for the whole step.
     pub fn window<E: TestName>(
         &self,
         points: &[Point],
@@ -63,8 +66,10 @@ impl<F: Filter> Inspection<F> {
     }
 
     fn window_of<E: TestName>(&self, e: E, rows: Rows<'_>) -> Option<(u8, u8)>
-        ensures { let shape = E.naming.shape (sheet_of_rows rows.entry) e in
+        ensures value { let shape = E.naming.shape (sheet_of_rows rows.entry) e in
             result ≡ window_at (F.Filter.struck self.now.filter) self.now.depth shape }
+        ensures meaning { let shape = E.naming.shape (sheet_of_rows rows.entry) e in
+            WindowMeans (F.Filter.struck self.now.filter) self.now.depth shape result }
     {
         let test = e.test(rows);
         let Some(window) = window_at(&self.filter, &test, self.depth) else {

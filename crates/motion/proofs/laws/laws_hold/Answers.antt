@@ -1,4 +1,4 @@
-use Rattle.motion.proofs.BoxLaws.{box-lawful}
+use Rattle.motion.proofs.BoxLaws.{box-lawful, box-in-slab}
 use Rattle.motion.proofs.SlabLaws.{slab-lawful}
 use Rattle.motion.proofs.PlaneLaws.{plane-lawful, never-coplanar}
 use Rattle.motion.proofs.Directions.{lists-all-directions}
@@ -19,6 +19,9 @@ returns-clause-never_coplanar c = never-coplanar
 
 pub returns-clause-directions : goal.returns-clause-directions
 returns-clause-directions c = lists-all-directions
+
+pub returns-clause-box_in_slab : goal.returns-clause-box_in_slab
+returns-clause-box_in_slab c = box-in-slab
 
 pub returns-clause-windows : goal.returns-clause-windows
 returns-clause-windows c = finds-window
