@@ -3,7 +3,7 @@ use Rattle.std.proofs.Common.{◌≡◌, ℕ, zero, suc, ◌+◌, false, List, [
 use Rattle.std.proofs.lemmas.Bool.Decides.{nat_tests}
 use Rattle.inspection.specs.declared.names.EeName.{EeName}
 use Rattle.inspection.specs.declared.names.Edge.{Edge}
-use Rattle.inspection.specs.Names.{ee_shared, ee_name_of}
+use Rattle.inspection.specs.Names.{ee_shared, ee_name_of, ee_same_equiv}
 use Rattle.inspection.specs.Offerings.{Offering, Faces, SameOffering}
 use Rattle.inspection.specs.Sheets.{Sheet, face_at}
 use Rattle.inspection.specs.Pairs.{edges, edge_against, edges_against}
@@ -73,8 +73,7 @@ ee-turned sheet (Faces f g) (Faces k l) a j x p u =
 pub ee_laws : (sheet : Sheet) → NamingLaws ee_naming sheet
 ee_laws sheet =
     record {
-      itself = λ x. grind (arith, nat_tests);
-      equal = λ x y h. grind (arith, nat_tests);
+      equivalence = ee_same_equiv;
       scale = λ x. refl;
       valid = λ r x. (omega arith, r x.l, r x.k, r x.u, r x.v);
       turned = ee-turned sheet;

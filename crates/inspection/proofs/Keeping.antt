@@ -43,7 +43,7 @@ module _ {E : Type 0} (n : Naming E) (set : Shape → Bool) (law : Lawful set) (
             ⊎_elim (λ t. (struck-there o.depth e (shallow i o a) (reached i o a) t).apart) (λ f. absurd (both_ways (has n.same e es) d (listed_one f))) (cases_Bool (struck_at set o.depth (n.shape sheet e)))
           where
             listed_one : struck_at set o.depth (n.shape sheet e) ≡ false → has n.same e es ≡ true
-            listed_one f = all-passed e i j (record { offer = o; test = e; accepted = a; holds = b; same = named.itself e; unshared = c; passed = f })
+            listed_one f = all-passed e i j (record { offer = o; test = e; accepted = a; holds = b; same = named.equivalence.refl e; unshared = c; passed = f })
 
     -- what another run lists, by a set that agrees
     module _ (set' : Shape → Bool) (same : Agree set set') (other : List Accepted) (shallow' : (i : ℕ) (o : Accepted) → At other i o → o.depth ≤ 6)

@@ -1,6 +1,9 @@
 -- What stands at a place of a list, and what a list has.
-use Rattle.std.proofs.Common.{◌≡◌, ◌⊎◌, ℕ, zero, suc, ◌+◌, ◌<◌, Bool, true, List, [], ◌∷◌, ◌++◌, length, sym, refl, ◌∙◌, subst, inl, inr, ⊎_elim, arith}
-use Rattle.std.proofs.lemmas.Bool.{or_cases, or_left, or_right, false≢true}
+use Rattle.std.proofs.Common.{◌≡◌, ◌⊎◌, ℕ, zero, suc, ◌+◌, ◌<◌, Bool, true, false, ◌||◌, List, [], ◌∷◌, ◌++◌, length, sym, refl, ap, ◌∙◌, subst, inl, inr, ⊎_elim, arith}
+use Rattle.std.specs.Cmp.{IsEquivalence}
+use Rattle.std.specs.List.{list_any}
+use Rattle.std.proofs.lemmas.Bool.{or_left, or_right}
+use Rattle.std.proofs.lemmas.List.Folds.{list_any-append}
 use Rattle.inspection.specs.Lists.{At, has}
 
 module _ {A : Type 0} where
@@ -49,11 +52,20 @@ module _ {A : Type 0} where
       end (suc j) e q = absurd q
 
 module _ {E : Type 0} (same : E → E → Bool) where
-  pub has-at : ((x y : E) → same x y ≡ true → x ≡ y) → (es : List E) (e : E) → has same e es ≡ true → (k : ℕ) × At es k e
-  has-at f [] e h = absurd (false≢true h)
-  has-at f (x ∷ xs) e h = ⊎_elim (λ q. (zero, sym (f e x q))) (λ q. let (k, p) = has-at f xs e q in (suc k, p)) (or_cases (same e x) (has same e xs) h)
+  -- what is the same as an entry is listed
+  pub at-has : (es : List E) (k : ℕ) (x e : E) → At es k x → same e x ≡ true → has same e es ≡ true
+  at-has [] k x e p s = absurd p
+  at-has (y ∷ ys) zero x e p s = or_left (same e y) (has same e ys) (subst (λ z. same e z ≡ true) (sym p) s)
+  at-has (y ∷ ys) (suc k) x e p s = or_right (same e y) (has same e ys) (at-has ys k x e p s)
 
-  pub at-has : ((x : E) → same x x ≡ true) → (es : List E) (k : ℕ) (e : E) → At es k e → has same e es ≡ true
-  at-has f [] k e p = absurd p
-  at-has f (x ∷ xs) zero e p = or_left (same e x) (has same e xs) (subst (λ y. same e y ≡ true) (sym p) (f e))
-  at-has f (x ∷ xs) (suc k) e p = or_right (same e x) (has same e xs) (at-has f xs k e p)
+  -- with one more
+  pub has-push : (es : List E) (x e : E) → has same e (es ++ (x ∷ [])) ≡ (has same e es || same e x)
+  has-push es x e = list_any-append (same e) es (x ∷ []) ∙ ap (λ b. has same e es || b) (or-false (same e x))
+    where
+      or-false : (b : Bool) → (b || false) ≡ b
+      or-false true = refl
+      or-false false = refl
+
+  -- of two that are the same both are listed, or none
+  pub has-same : IsEquivalence same → (es : List E) (d e : E) → same d e ≡ true → has same d es ≡ has same e es
+  has-same laws es d e s = λ i. list_any (λ x. laws.congr d e x s i) es

@@ -1,7 +1,7 @@
 -- The names of tests of a point against a face.
 use Rattle.std.proofs.Common.{◌≡◌, ℕ, false, refl, subst₂, ⊎_elim, arith}
-use Rattle.std.proofs.lemmas.Bool.Decides.{nat_tests}
 use Rattle.inspection.specs.declared.names.VfName.{VfName}
+use Rattle.inspection.specs.Names.{vf_same_equiv}
 use Rattle.inspection.specs.Lists.{At}
 use Rattle.inspection.specs.Offerings.{Offering, Faces, SameOffering}
 use Rattle.inspection.specs.Sheets.{Sheet, face_at}
@@ -22,8 +22,7 @@ vf-turned sheet (Faces f g) (Faces k l) a j x p u =
 pub vf_laws : (sheet : Sheet) → NamingLaws vf_naming sheet
 vf_laws sheet =
     record {
-      itself = λ x. grind (arith, nat_tests);
-      equal = λ x y h. grind (arith, nat_tests);
+      equivalence = vf_same_equiv;
       scale = λ x. refl;
       valid =
           λ r x.
