@@ -1,16 +1,19 @@
 -- What a list holds of a history's tests, up to a place in it.
-use Rattle.std.proofs.Common.{◌≡◌, ◌⊎◌, ℕ, zero, suc, ◌+◌, ◌<◌, Bool, true, false, cond, List, [], ◌∷◌, ◌++◌, length, sym, refl, ap, ◌∙◌, subst, subst₂, inl, inr, ⊎_elim, arith}
-use Rattle.std.proofs.lemmas.Bool.{both_ways, or_cases, or_left, or_right, false≢true}
+use Rattle.std.proofs.Common.{◌≡◌, ℕ, zero, suc, ◌+◌, ◌<◌, Bool, true, false, cond, List, [], ◌∷◌, ◌++◌, AllPairs, get_or, length, sym, refl, ap, ◌∙◌, subst, subst₂, inl, inr, ⊎_elim, arith}
+use Rattle.std.proofs.lemmas.Bool.{both_ways, or_cases, or_left, or_right, false_from_ne_true, false≢true}
+use Rattle.std.proofs.lemmas.List.Quantifiers.{all_pairs_push}
+use Rattle.std.proofs.lemmas.Map.Keys.{any_passes_from_place}
+use Rattle.std.proofs.lemmas.Option.{slice_get_within, slice_get-get_or}
 use Rattle.motion.specs.declared.shapes.Shape.{Shape}
 use Rattle.motion.specs.Depths.{struck_at}
 use Rattle.inspection.specs.declared.classes.Class.TheVariants.{Kept, Struck, Shared, Repeated}
 use Rattle.inspection.specs.Sheets.{Sheet}
 use Rattle.inspection.specs.Tests.{Naming}
-use Rattle.inspection.specs.Lists.{At, has}
+use Rattle.inspection.specs.Lists.{has}
 use Rattle.inspection.specs.Classes.{Rules, rules_at, class_of, entries_with, entries_after}
 use Rattle.inspection.specs.Runs.{Accepted}
-use Rattle.inspection.specs.Claims.{PassedAt, Before}
-use Rattle.inspection.proofs.Standing.{only, below, spot, at-has, has-push, has-same}
+use Rattle.inspection.specs.Claims.{PassedAt, PassedBefore, Before}
+use Rattle.inspection.proofs.Standing.{At, only, has-push, has-same}
 use Rattle.inspection.proofs.NamingLaws.{NamingLaws}
 use Rattle.inspection.proofs.Befores.{never, more, here, last, last_offer, next_offer, apart}
 
@@ -19,17 +22,16 @@ module _ {E : Type 0} (n : Naming E) (set : Shape → Bool) (sheet : Sheet) (h :
   pub record Upto (i k : ℕ) (es : List E) : Type 0 where
     pub listed : (e : E) → has n.same e es ≡ true → (p : ℕ) × ((q : ℕ) × (PassedAt n set sheet h e p q × Before p q i k))
     pub passed : (e : E) (p q : ℕ) → PassedAt n set sheet h e p q → Before p q i k → has n.same e es ≡ true
-    pub once : (a b : ℕ) (x y : E) → At es a x → At es b y → n.same x y ≡ true → a ≡ b
-    pub order : (a b : ℕ) (x y : E) → At es a x → At es b y → a < b
-        → (p : ℕ) × ((q : ℕ) × (PassedAt n set sheet h x p q × ((p' q' : ℕ) → PassedAt n set sheet h y p' q' → Before p q p' q')))
+    pub once : AllPairs (λ x y. n.same x y ≡ false) es
+    pub order : AllPairs (PassedBefore n set sheet h) es
 
   pub nothing : Upto 0 0 []
   nothing =
       record {
         listed = λ e t. absurd (false≢true t);
         passed = λ e p q t b. absurd (never p q b);
-        once = λ a b x y s t u. absurd s;
-        order = λ a b x y s t u. absurd s;
+        once = λ a b d s t. absurd (omega arith);
+        order = λ a b d s t. absurd (omega arith);
       }
 
   -- a test that adds nothing
@@ -61,11 +63,14 @@ module _ {E : Type 0} (n : Naming E) (set : Shape → Bool) (sheet : Sheet) (h :
     -- a test that is added at the end
     pub keep : (i k : ℕ) (es : List E) (x : E) → Upto i k es → has n.same x es ≡ false → PassedAt n set sheet h x i k → ((e : E) → PassedAt n set sheet h e i k → n.same e x ≡ true)
         → Upto i (suc k) (es ++ (x ∷ []))
-    keep i k es x u new w only_one = record { listed = all-listed; passed = all-passed; once = all-once; order = all-order }
+    keep i k es x u new w only_one =
+        record {
+          listed = all-listed;
+          passed = all-passed;
+          once = all_pairs_push (λ y z. n.same y z ≡ false) es x u.once other;
+          order = all_pairs_push (PassedBefore n set sheet h) es x u.order later;
+        }
       where
-        not-before : (p q : ℕ) → PassedAt n set sheet h x p q → Before p q i k → ⊥
-        not-before p q v b = both_ways (has n.same x es) new (u.passed x p q v b)
-
         all-listed : (e : E) → has n.same e (es ++ (x ∷ [])) ≡ true → (p : ℕ) × ((q : ℕ) × (PassedAt n set sheet h e p q × Before p q i (suc k)))
         all-listed e t =
             ⊎_elim
@@ -81,30 +86,17 @@ module _ {E : Type 0} (n : Naming E) (set : Shape → Bool) (sheet : Sheet) (h :
             (λ (c, d). or_right (has n.same e es) (n.same e x) (only_one e (subst₂ (λ (y z : ℕ). PassedAt n set sheet h e y z) c d v)))
             (last p q i k b)
 
-        old-new : (a : ℕ) (y : E) → At es a y → n.same x y ≡ true → ⊥
-        old-new a y s r = both_ways (has n.same x es) new (at-has n.same es a y x s r)
+        -- the new one is not the same as an old one, which was passed before
+        other : (a : ℕ) (d : E) → a < length es → n.same (get_or es a d) x ≡ false
+        other a d l =
+            let y = get_or es a d in
+            false_from_ne_true (n.same y x) (λ t. both_ways (has n.same x es) new (any_passes_from_place (n.same x) es a y (slice_get-get_or es a d l) (named.equivalence.symm x y ∙ t)))
 
-        all-once : (a b : ℕ) (y z : E) → At (es ++ (x ∷ [])) a y → At (es ++ (x ∷ [])) b z → n.same y z ≡ true → a ≡ b
-        all-once a b y z s t v = go (spot es x a y s) (spot es x b z t)
-          where
-            go : At es a y ⊎ ((a ≡ length es) × (x ≡ y)) → At es b z ⊎ ((b ≡ length es) × (x ≡ z)) → a ≡ b
-            go (inl s) (inl t) = u.once a b y z s t v
-            go (inl s) (inr (c, r)) = absurd (old-new a y s (named.equivalence.symm x y ∙ subst (λ (e : E). n.same y e ≡ true) (sym r) v))
-            go (inr (c, r)) (inl t) = absurd (old-new b z t (subst (λ (e : E). n.same e z ≡ true) (sym r) v))
-            go (inr (c, r)) (inr (d, s)) = c ∙ sym d
-
-        all-order : (a b : ℕ) (y z : E) → At (es ++ (x ∷ [])) a y → At (es ++ (x ∷ [])) b z → a < b
-            → (p : ℕ) × ((q : ℕ) × (PassedAt n set sheet h y p q × ((p' q' : ℕ) → PassedAt n set sheet h z p' q' → Before p q p' q')))
-        all-order a b y z s t l = go (spot es x a y s) (spot es x b z t)
-          where
-            go : At es a y ⊎ ((a ≡ length es) × (x ≡ y)) → At es b z ⊎ ((b ≡ length es) × (x ≡ z))
-                → (p : ℕ) × ((q : ℕ) × (PassedAt n set sheet h y p q × ((p' q' : ℕ) → PassedAt n set sheet h z p' q' → Before p q p' q')))
-            go (inl s) (inl t) = u.order a b y z s t l
-            go (inl s) (inr (c, r)) =
-                let (p, (q, (v, g))) = u.listed y (at-has n.same es a y y s (named.equivalence.refl y)) in
-                (p, (q, (v, λ p' q' f. apart p q p' q' i k g (λ d. not-before p' q' (subst (λ (e : E). PassedAt n set sheet h e p' q') (sym r) f) d))))
-            go (inr (c, r)) (inl t) = let m = below es b z t in absurd (omega arith)
-            go (inr (c, r)) (inr (d, s)) = absurd (omega arith)
+        later : (a : ℕ) (d : E) → a < length es → PassedBefore n set sheet h (get_or es a d) x
+        later a d l =
+            let y = get_or es a d in
+            let (p, (q, (v, b))) = u.listed y (any_passes_from_place (n.same y) es a y (slice_get-get_or es a d l) (named.equivalence.refl y)) in
+            (p, (q, (v, λ p' q' f. apart p q p' q' i k b (λ c. both_ways (has n.same x es) new (u.passed x p' q' f c)))))
 
   module _ (named : NamingLaws n sheet) (i : ℕ) (o : Accepted) (there : At h i o) where
     abbrev by : Rules E
@@ -151,7 +143,7 @@ module _ {E : Type 0} (n : Naming E) (set : Shape → Bool) (sheet : Sheet) (h :
     pub offer : (es : List E) → Upto i 0 es → Upto (suc i) 0 (entries_after by es (n.tests sheet o.what))
     offer es u =
         turn i (length ts) (entries_after by es ts) (several ts 0 (length ts) es (omega arith) (λ j m x e s. subst (λ (l : ℕ). At ts l x) (same j m e) s) u)
-        (λ e q w. below ts q w.test (subst (λ (a : Accepted). At (n.tests sheet a.what) q w.test) (only h i w.offer o w.accepted there) w.holds))
+        (λ e q w. slice_get_within ts q w.test (subst (λ (a : Accepted). At (n.tests sheet a.what) q w.test) (only h i w.offer o w.accepted there) w.holds))
       where
         same : (j m : ℕ) → m ≡ 0 + j → j ≡ m
         same j m e = omega arith
