@@ -4,6 +4,8 @@ use Rattle.sheet.specs.declared.drafts.Draft.{Draft}
 use Rattle.motion.specs.declared.shapes.Shape.{Shape}
 use Rattle.motion.specs.Laws.{Lawful}
 use Rattle.inspection.specs.declared.classes.Tally.{Tally}
+use Rattle.inspection.specs.declared.kinds.ListKind.TheVariants.{Vf, Ee}
+use Rattle.inspection.specs.Tallies.{tally_in}
 use Rattle.inspection.specs.Sheets.{Sheet}
 use Rattle.inspection.specs.Tests.{Naming, vf_naming, ee_naming}
 use Rattle.inspection.proofs.Standing.{At, at-all}
@@ -27,8 +29,8 @@ claim {set} law d sheet h s run =
     let near = λ (i : ℕ) (o : Accepted) (a : At h i o). (at-all (OfferFacts sheet) h i o m.each a).near in
     record {
       draft = m.draft;
-      vf = kept vf_naming set law sheet (vf_laws sheet) h low near s.vf.entries (ended m.vf);
-      ee = kept ee_naming set law sheet (ee_laws sheet) h low near s.ee.entries (ended m.ee);
+      vf = kept vf_naming set law sheet (vf_laws sheet) h low near s.vf.entries (ended m.vf) 6 (tally_in Vf s.core.tallies) m.vf.classes m.vf.counts;
+      ee = kept ee_naming set law sheet (ee_laws sheet) h low near s.ee.entries (ended m.ee) 9 (tally_in Ee s.core.tallies) m.ee.classes m.ee.counts;
       again = λ set' same d' other t run' answered.
           let m' : Moment set' d' sheet other t = moment set' d' sheet run' in
           let low' = λ (i : ℕ) (o : Accepted) (a : At other i o). (at-all (OfferFacts sheet) other i o m'.each a).shallow in (
@@ -37,8 +39,4 @@ claim {set} law d sheet h s run =
           );
       of_sheet = λ i o a. (m.each i o a).of_sheet;
       offers = m.offers;
-      vf_classes = m.vf.classes;
-      ee_classes = m.ee.classes;
-      vf_counts = m.vf.counts;
-      ee_counts = m.ee.counts;
     }

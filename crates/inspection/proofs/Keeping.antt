@@ -1,5 +1,5 @@
 -- What the tests of one kind and their list owe, at the end of a run.
-use Rattle.std.proofs.Common.{◌≡◌, ℕ, ◌+◌, ◌≤◌, Bool, true, false, List, Any, get_or, length, sym, refl, ◌∙◌, inl, ⊎_elim, arith}
+use Rattle.std.proofs.Common.{◌≡◌, ℕ, ◌+◌, ◌*◌, ◌≤◌, Bool, true, false, List, Any, get_or, length, sym, refl, ◌∙◌, inl, ⊎_elim, arith}
 use Rattle.std.proofs.lemmas.Bool.{cases_Bool, both_ways, false_from_ne_true}
 use Rattle.std.proofs.lemmas.Option.{slice_get_within, slice_get-get_or, slice_get_read, get_or_from_slice_get}
 use Rattle.motion.specs.declared.shapes.Shape.{Shape}
@@ -10,8 +10,10 @@ use Rattle.inspection.specs.Offerings.{SameOffering}
 use Rattle.inspection.specs.Sheets.{Sheet, point_at}
 use Rattle.inspection.specs.Tests.{Naming}
 use Rattle.inspection.specs.Lists.{has}
+use Rattle.inspection.specs.declared.classes.Tally.{Tally}
+use Rattle.inspection.specs.Tallies.{total}
 use Rattle.inspection.specs.Runs.{Accepted}
-use Rattle.inspection.specs.Claims.{PassedAt, ClaimOfKind, Agree, MatchesOffers, Covers}
+use Rattle.inspection.specs.Claims.{PassedAt, CountsOfKind, ClaimOfKind, Agree, MatchesOffers, Covers}
 use Rattle.inspection.proofs.Standing.{At, at-all}
 use Rattle.inspection.proofs.NamingLaws.{NamingLaws}
 use Rattle.inspection.proofs.Gathering.{Upto}
@@ -30,13 +32,15 @@ module _ {E : Type 0} (n : Naming E) (set : Shape → Bool) (law : Lawful set) (
     pub all-passed : (e : E) (i j : ℕ) → PassedAt n set sheet h e i j → has n.same e es ≡ true
     all-passed e i j w = u.passed e i j w (inl (slice_get_within h i w.offer w.accepted))
 
-    pub kept : ClaimOfKind n set sheet h es
-    kept =
+    pub kept : (each : ℕ) (t : Tally) → total t ≡ each * length h → CountsOfKind n set sheet h es t → ClaimOfKind n set sheet h each es t
+    kept each t classes counts =
         record {
           apart = λ i o a j e b. let p = get_or h i o in stays i j p (get_or (n.tests sheet p.what) j e) (slice_get-get_or h i o a) (slice_get-get_or (n.tests sheet p.what) j e b);
           listed = λ e. (λ t. let (i, (j, (w, b))) = u.listed e t in (i, (j, w)), λ (i, (j, w)). all-passed e i j w);
           once = u.once;
           order = u.order;
+          classes = classes;
+          counts = counts;
         }
       where
         stays : (i j : ℕ) (o : Accepted) (e : E) → At h i o → At (n.tests sheet o.what) j e → n.shared sheet e ≡ false → has n.same e es ≡ false

@@ -44,8 +44,18 @@ module _
       (i : ℕ) × ((j : ℕ)
       × (PassedAt x i j × ((k l : ℕ) → PassedAt y k l → Before i j k l)))
 
-  -- what their list says
-  pub record ClaimOfKind (es : List E) : Type 0 where
+  -- how they are counted: each in one class
+  pub record CountsOfKind (es : List E) (t : Tally) : Type 0 where
+    pub shared : t.shared ≡ how_many n sheet history (λ o e. n.shared sheet e)
+    pub struck : t.struck ≡ how_many n sheet history
+        (λ o e. not (n.shared sheet e) && struck_at set o.depth (n.shape sheet e))
+    -- what is neither is kept, or repeated; what is kept is listed
+    pub passed : t.kept + t.repeated ≡ how_many n sheet history
+        (λ o e. not (n.shared sheet e) && not (struck_at set o.depth (n.shape sheet e)))
+    pub kept : t.kept ≡ length es
+
+  -- what their list and their tally say, an offer having so many of them
+  pub record ClaimOfKind (each : ℕ) (es : List E) (t : Tally) : Type 0 where
     -- what an accepted offer holds, is not shared and is not listed stays apart for the whole step
     pub apart : All (λ o. All (λ e. IsFalse (n.shared sheet e) → IsFalse (has n.same e es)
         → Apart (n.shape sheet e)) (n.tests sheet o.what)) history
@@ -55,16 +65,9 @@ module _
     pub once : AllPairs (λ x y. IsFalse (n.same x y)) es
     -- the entries stand in the order of first passing
     pub order : AllPairs PassedBefore es
-
-  -- what their tally says
-  pub record CountsOfKind (es : List E) (t : Tally) : Type 0 where
-    pub shared : t.shared ≡ how_many n sheet history (λ o e. n.shared sheet e)
-    pub struck : t.struck ≡ how_many n sheet history
-        (λ o e. not (n.shared sheet e) && struck_at set o.depth (n.shape sheet e))
-    -- what is neither is kept, or repeated; what is kept is listed
-    pub passed : t.kept + t.repeated ≡ how_many n sheet history
-        (λ o e. not (n.shared sheet e) && not (struck_at set o.depth (n.shape sheet e)))
-    pub kept : t.kept ≡ length es
+    -- each test is counted
+    pub classes : total t ≡ each * length history
+    pub counts : CountsOfKind es t
 
 -- two sets that agree on every test
 abbrev pub Agree : (Shape → Bool) → (Shape → Bool) → Type 0
@@ -94,8 +97,8 @@ pub record Claim
     (set : Shape → Bool) (d : Draft) (sheet : Sheet) (history : List Accepted) (s : State)
     : Type 0 where
   pub draft : s.core.draft ≡ d
-  pub vf : ClaimOfKind vf_naming set sheet history s.vf.entries
-  pub ee : ClaimOfKind ee_naming set sheet history s.ee.entries
+  pub vf : ClaimOfKind vf_naming set sheet history 6 s.vf.entries (tally_in Vf s.core.tallies)
+  pub ee : ClaimOfKind ee_naming set sheet history 9 s.ee.entries (tally_in Ee s.core.tallies)
   -- another run over the same sheet, of any draft, by a filter of the same set, lists nothing that
   -- is lacking here, where its offers were accepted here
   pub again : (set' : Shape → Bool) → Agree set set'
@@ -104,12 +107,7 @@ pub record Claim
       → Covers vf_naming.same s.vf.entries t.vf.entries
       × Covers ee_naming.same s.ee.entries t.ee.entries
   pub of_sheet : All (λ o. OfSheet sheet o.what) history
-  -- each offer's six tests of the one kind and nine of the other are counted, each in one class
   pub offers : s.core.accepted ≡ length history
-  pub vf_classes : total (tally_in Vf s.core.tallies) ≡ 6 * length history
-  pub ee_classes : total (tally_in Ee s.core.tallies) ≡ 9 * length history
-  pub vf_counts : CountsOfKind vf_naming set sheet history s.vf.entries (tally_in Vf s.core.tallies)
-  pub ee_counts : CountsOfKind ee_naming set sheet history s.ee.entries (tally_in Ee s.core.tallies)
 
 -- what every run that ends in this state has found
 abbrev pub Findings : (Shape → Bool) → State → Type 0
