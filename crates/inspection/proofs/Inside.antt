@@ -2,7 +2,7 @@
 use Rattle.std.proofs.Common.{◌≡◌, ℕ, ◌<◌, Bool, true, false, if◌then◌else◌, ◌&&◌, IsTrue, List, [], ◌∷◌, All, length, nat_lt, refl, arith}
 use Rattle.std.proofs.lemmas.Bool.{lt-ltb}
 use Rattle.std.proofs.lemmas.Bool.Decides.{nat_tests}
-use Rattle.std.proofs.lemmas.List.Elements.{All-append, All-cons, All-nil, All-push, All-head, All-tail}
+use Rattle.std.proofs.lemmas.List.Elements.{All-append, All-cons, All-nil, All-push, All-head, All-tail, All-contains}
 use Rattle.sheet.specs.declared.rows.Face.{Face}
 use Rattle.inspection.specs.declared.classes.Class.{Class}
 use Rattle.inspection.specs.declared.classes.Class.TheVariants.{Kept, Struck, Shared, Repeated}
@@ -12,8 +12,9 @@ use Rattle.inspection.specs.declared.names.Edge.{Edge}
 use Rattle.inspection.specs.Classes.{Rules, class_of, entries_with, entries_after}
 use Rattle.inspection.specs.Names.{edge_of, ee_name_of, name_in_order}
 use Rattle.inspection.specs.Offerings.{Faces}
-use Rattle.inspection.specs.Pairs.{corners_against, edges, edge_against, edges_against}
+use Rattle.inspection.specs.Pairs.{corners_against, edges, edges_against}
 use Rattle.inspection.specs.Sheets.{Sheet, face_at}
+use Rattle.inspection.proofs.EeNames.{each_against}
 use Rattle.inspection.specs.Tests.{corners_inside, vf_inside, ee_inside, vf_tests_of, ee_tests_of}
 
 -- what holds of each entry and of each test holds of each entry after them
@@ -88,15 +89,8 @@ module _ (s : Sheet) where
       by true = in_order f e q p
       by false = in_order e f p q
 
-  one_edge : (e : Edge) (fs : List Edge) → EdgeIn e → All EdgeIn fs → All EeIn (edge_against e fs)
-  one_edge e [] p all = All-nil EeIn
-  one_edge e (f ∷ fs) p all =
-      All-cons EeIn (ee_name_of e f) (edge_against e fs) (named e f p (All-head EdgeIn f fs all)) (one_edge e fs p (All-tail EdgeIn f fs all))
-
   all_edges : (es fs : List Edge) → All EdgeIn es → All EdgeIn fs → All EeIn (edges_against es fs)
-  all_edges [] fs p q = All-nil EeIn
-  all_edges (e ∷ es) fs p q =
-      All-append EeIn (edge_against e fs) (edges_against es fs) (one_edge e fs (All-head EdgeIn e es p) q) (all_edges es fs (All-tail EdgeIn e es p) q)
+  all_edges es fs p q = each_against EeIn es fs (λ e f a b. named e f (All-contains EdgeIn es e p a) (All-contains EdgeIn fs f q b))
 
   edges_in : (f : Face) → Corners f → All EdgeIn (edges f)
   edges_in f c =

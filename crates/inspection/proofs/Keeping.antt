@@ -1,16 +1,20 @@
 -- What the tests of one kind and their list owe, at the end of a run.
-use Rattle.std.proofs.Common.{◌≡◌, ℕ, ◌+◌, ◌≤◌, Bool, true, false, List, length, sym, ◌∙◌, inl, ⊎_elim, arith}
+use Rattle.std.proofs.Common.{◌≡◌, ℕ, ◌+◌, ◌*◌, ◌≤◌, Bool, true, false, List, Any, get_or, length, sym, refl, ◌∙◌, inl, ⊎_elim, arith}
 use Rattle.std.proofs.lemmas.Bool.{cases_Bool, both_ways, false_from_ne_true}
+use Rattle.std.proofs.lemmas.Option.{slice_get_within, slice_get-get_or, slice_get_read, get_or_from_slice_get}
 use Rattle.motion.specs.declared.shapes.Shape.{Shape}
 use Rattle.motion.specs.Laws.{Lawful, InReach, Apart}
 use Rattle.motion.specs.Depths.{struck_at, Struck}
 use Rattle.motion.proofs.DepthLaws.{struck}
+use Rattle.inspection.specs.Offerings.{SameOffering}
 use Rattle.inspection.specs.Sheets.{Sheet, point_at}
 use Rattle.inspection.specs.Tests.{Naming}
-use Rattle.inspection.specs.Lists.{At, has}
+use Rattle.inspection.specs.Lists.{has}
+use Rattle.inspection.specs.declared.classes.Tally.{Tally}
+use Rattle.inspection.specs.Tallies.{total}
 use Rattle.inspection.specs.Runs.{Accepted}
-use Rattle.inspection.specs.Claims.{PassedAt, ClaimOfKind, Agree, MatchesOffers, Covers}
-use Rattle.inspection.proofs.Standing.{below}
+use Rattle.inspection.specs.Claims.{PassedAt, CountsOfKind, ClaimOfKind, Agree, MatchesOffers, Covers}
+use Rattle.inspection.proofs.Standing.{At, at-all}
 use Rattle.inspection.proofs.NamingLaws.{NamingLaws}
 use Rattle.inspection.proofs.Gathering.{Upto}
 use Rattle.inspection.proofs.Agreeing.{agreed}
@@ -26,15 +30,17 @@ module _ {E : Type 0} (n : Naming E) (set : Shape → Bool) (law : Lawful set) (
   module _ (h : List Accepted) (shallow : (i : ℕ) (o : Accepted) → At h i o → o.depth ≤ 6) (reached : (i : ℕ) (o : Accepted) → At h i o → (k : ℕ) → InReach 0 (point_at sheet k))
       (es : List E) (u : Upto n set sheet h (length h) 0 es) where
     pub all-passed : (e : E) (i j : ℕ) → PassedAt n set sheet h e i j → has n.same e es ≡ true
-    all-passed e i j w = u.passed e i j w (inl (below h i w.offer w.accepted))
+    all-passed e i j w = u.passed e i j w (inl (slice_get_within h i w.offer w.accepted))
 
-    pub kept : ClaimOfKind n set sheet h es
-    kept =
+    pub kept : (each : ℕ) (t : Tally) → total t ≡ each * length h → CountsOfKind n set sheet h es t → ClaimOfKind n set sheet h each es t
+    kept each t classes counts =
         record {
-          apart = stays;
+          apart = λ i o a j e b. let p = get_or h i o in stays i j p (get_or (n.tests sheet p.what) j e) (slice_get-get_or h i o a) (slice_get-get_or (n.tests sheet p.what) j e b);
           listed = λ e. (λ t. let (i, (j, (w, b))) = u.listed e t in (i, (j, w)), λ (i, (j, w)). all-passed e i j w);
           once = u.once;
-          order = λ k l x y s t b. u.order k l x y s t b;
+          order = u.order;
+          classes = classes;
+          counts = counts;
         }
       where
         stays : (i j : ℕ) (o : Accepted) (e : E) → At h i o → At (n.tests sheet o.what) j e → n.shared sheet e ≡ false → has n.same e es ≡ false
@@ -43,7 +49,7 @@ module _ {E : Type 0} (n : Naming E) (set : Shape → Bool) (law : Lawful set) (
             ⊎_elim (λ t. (struck-there o.depth e (shallow i o a) (reached i o a) t).apart) (λ f. absurd (both_ways (has n.same e es) d (listed_one f))) (cases_Bool (struck_at set o.depth (n.shape sheet e)))
           where
             listed_one : struck_at set o.depth (n.shape sheet e) ≡ false → has n.same e es ≡ true
-            listed_one f = all-passed e i j (record { offer = o; test = e; accepted = a; holds = b; same = named.itself e; unshared = c; passed = f })
+            listed_one f = all-passed e i j (record { offer = o; test = e; accepted = a; holds = b; same = named.equivalence.refl e; unshared = c; passed = f })
 
     -- what another run lists, by a set that agrees
     module _ (set' : Shape → Bool) (same : Agree set set') (other : List Accepted) (shallow' : (i : ℕ) (o : Accepted) → At other i o → o.depth ≤ 6)
@@ -70,9 +76,10 @@ module _ {E : Type 0} (n : Naming E) (set : Shape → Bool) (law : Lawful set) (
 
       passed-here : (e : E) (i j : ℕ) → PassedAt n set' sheet other e i j → has n.same e es ≡ true
       passed-here e i j w =
-          let (k, (p, (a, b, c))) = answered i w.offer w.accepted in
-          let (l, t) = named.turned w.offer.what p.what b j w.test w.holds w.unshared in
-          passed-as e i j w k l p a c t
+          let (k, p, a, is, (b, c)) = at-all (λ o. Any (λ p. SameOffering o.what p.what × (p.depth ≤ o.depth)) h) other i w.offer answered w.accepted in
+          let ts : List E = n.tests sheet w.offer.what in
+          let (l, d, at) = named.turned w.offer.what p.what b w.test (j, slice_get_within ts j w.test w.holds, get_or_from_slice_get ts j w.test w.test w.holds) w.unshared in
+          passed-as e i j w k l p (slice_get_read h (length h) k p refl a (sym is)) c (slice_get_read (n.tests sheet p.what) (length (n.tests sheet p.what)) l w.test refl d (sym at))
 
       pub covers : Covers n.same es others
       covers e t = let (i, (j, (w, b))) = v.listed e t in passed-here e i j w

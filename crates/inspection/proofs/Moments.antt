@@ -1,7 +1,8 @@
 -- What holds at every moment of a run.
-use Rattle.std.proofs.Common.{◌≡◌, ℕ, zero, suc, ◌+◌, ◌*◌, ◌<◌, ◌≤◌, Bool, true, false, not, cond, ◌&&◌, count_by, nat_lt, List, [], ◌∷◌, ◌++◌, length, take, get_or, map, Ok, Err, Result, sym, refl, ap, ◌∙◌, subst, subst₂, ⊎_elim, ltb-false, append_assoc, length-append, length-take-le, zero-add, arith}
+use Rattle.std.proofs.Common.{◌≡◌, ℕ, suc, ◌+◌, ◌*◌, ◌<◌, ◌≤◌, Bool, true, false, not, cond, ◌&&◌, count_by, nat_lt, List, [], ◌∷◌, ◌++◌, All, length, take, get_or, map, Ok, Err, Result, sym, refl, ap, ◌∙◌, subst, subst₂, ltb-false, append_assoc, length-append, length-take-le, zero-add, arith}
 use Rattle.std.proofs.Math.ListN.{get_or-map}
 use Rattle.std.proofs.lemmas.List.Sums.{sum_by-append, sum_by-cons}
+use Rattle.std.proofs.lemmas.List.Elements.{All-nil, All-push}
 use Rattle.motion.specs.Depths.{struck_at}
 use Rattle.std.proofs.lemmas.List.{length-map}
 use Rattle.std.proofs.lemmas.Bool.{or_parts, not-false, leb-false, eqb-false}
@@ -18,7 +19,6 @@ use Rattle.inspection.specs.Tallies.{no_tests, total, with_one_more, sum_of, tal
 use Rattle.inspection.specs.Offerings.{Offering, Faces}
 use Rattle.inspection.specs.Sheets.{Sheet, sheet_in, moving_of, nowhere, point_at, face_at}
 use Rattle.inspection.specs.Tests.{Naming, corners_below, vf_naming, ee_naming}
-use Rattle.inspection.specs.Lists.{At}
 use Rattle.inspection.specs.Classes.{Rules, rules_at, class_of, entries_with, entries_after, tally_after}
 use Rattle.inspection.specs.States.{Core, State}
 use Rattle.inspection.specs.Offers.{lacks_rows, entries_by, tally_by, state_after, offer_checks}
@@ -26,7 +26,7 @@ use Rattle.inspection.specs.Runs.{depth_checks, Opened, DepthStep, Accepted, Bri
 use Rattle.inspection.specs.Runs.Run.{opened, depth_set, offered, asked}
 use Rattle.inspection.specs.Claims.{CountsOfKind, how_many, OfSheet}
 use Rattle.inspection.proofs.Coordinates.{in_reach}
-use Rattle.inspection.proofs.Standing.{behind, parts}
+use Rattle.inspection.proofs.Standing.{behind}
 use Rattle.inspection.proofs.NamingLaws.{NamingLaws}
 use Rattle.inspection.proofs.VfNames.{vf_laws}
 use Rattle.inspection.proofs.EeNames.{ee_laws}
@@ -133,7 +133,7 @@ pub record Moment (set : Shape → Bool) (d : Draft) (sheet : Sheet) (h : List A
   pub draft : s.core.draft ≡ d
   pub depth : s.core.depth ≤ 6
   pub offers : s.core.accepted ≡ length h
-  pub each : (i : ℕ) (o : Accepted) → At h i o → OfferFacts sheet o
+  pub each : All (OfferFacts sheet) h
   pub vf : KindSoFar vf_naming (λ i. 6 * i) set sheet h s.vf.entries (tally_in Vf s.core.tallies)
   pub ee : KindSoFar ee_naming (λ i. 9 * i) set sheet h s.ee.entries (tally_in Ee s.core.tallies)
 
@@ -144,7 +144,7 @@ module _ (set : Shape → Bool) (d : Draft) (sheet : Sheet) where
         draft = ap (λ (c : Core). c.draft) o.core;
         depth = o.depth;
         offers = ap (λ (c : Core). c.accepted) o.core;
-        each = λ i p q. absurd q;
+        each = All-nil (OfferFacts sheet);
         vf = subst₂ (KindSoFar vf_naming (λ i. 6 * i) set sheet []) (sym o.vf) (sym (ap (λ (c : Core). tally_in Vf c.tallies) o.core)) (no-offer vf_naming (λ i. 6 * i) set sheet refl);
         ee = subst₂ (KindSoFar ee_naming (λ i. 9 * i) set sheet []) (sym o.ee) (sym (ap (λ (c : Core). tally_in Ee c.tallies) o.core)) (no-offer ee_naming (λ i. 9 * i) set sheet refl);
       }
@@ -164,14 +164,10 @@ module _ (set : Shape → Bool) (d : Draft) (sheet : Sheet) where
         draft = m.draft;
         depth = m.depth;
         offers = omega (arith, m.offers, longer h o);
-        each = λ i p q. ⊎_elim (m.each i p) (λ (j, (x, y)). last o (subst (λ (z : Sheet). OfferFacts z o) e (offer_facts set s ps fs w m.depth none)) j p y) (parts h (o ∷ []) i p q);
+        each = All-push (OfferFacts sheet) h o m.each (subst (λ (z : Sheet). OfferFacts z o) e (offer_facts set s ps fs w m.depth none));
         vf = one-more vf_naming (λ i. 6 * i) set sheet (vf_laws sheet) h o s.vf.entries (tally_in Vf s.core.tallies) (six sheet w (length h)) m.vf;
         ee = one-more ee_naming (λ i. 9 * i) set sheet (ee_laws sheet) h o s.ee.entries (tally_in Ee s.core.tallies) (nine sheet w (length h)) m.ee;
       }
-    where
-      last : (o : Accepted) → OfferFacts sheet o → (j : ℕ) (p : Accepted) → At (o ∷ []) j p → OfferFacts sheet p
-      last o x zero p y = subst (OfferFacts sheet) y x
-      last o x (suc j) p y = absurd y
 
   pub moment : {h : List Accepted} {s : State} → Run set d sheet h s → Moment set d sheet h s
   moment (opened {s} o) = at-opening s o

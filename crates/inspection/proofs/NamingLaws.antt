@@ -1,15 +1,14 @@
 -- What the names of both kinds of tests have in common.
-use Rattle.std.proofs.Common.{◌≡◌, ℕ, true, false}
+use Rattle.std.proofs.Common.{◌≡◌, ℕ, false, Contains}
+use Rattle.std.specs.Cmp.{IsEquivalence}
 use Rattle.motion.specs.Laws.{Valid, InReach}
 use Rattle.inspection.specs.Offerings.{Offering, SameOffering}
 use Rattle.inspection.specs.Sheets.{Sheet, point_at}
 use Rattle.inspection.specs.Tests.{Naming}
-use Rattle.inspection.specs.Lists.{At}
 
 pub record NamingLaws {E : Type 0} (n : Naming E) (sheet : Sheet) : Type 0 where
-  pub itself : (x : E) → n.same x x ≡ true
-  pub equal : (x y : E) → n.same x y ≡ true → x ≡ y
+  pub equivalence : IsEquivalence n.same
   pub scale : (x : E) → (n.shape sheet x).scale ≡ 0
   pub valid : ((k : ℕ) → InReach 0 (point_at sheet k)) → (x : E) → Valid (n.shape sheet x)
   -- what is alike has the same tests
-  pub turned : (o p : Offering) → SameOffering o p → (j : ℕ) (x : E) → At (n.tests sheet o) j x → n.shared sheet x ≡ false → (k : ℕ) × At (n.tests sheet p) k x
+  pub turned : (o p : Offering) → SameOffering o p → (x : E) → Contains (n.tests sheet o) x → n.shared sheet x ≡ false → Contains (n.tests sheet p) x

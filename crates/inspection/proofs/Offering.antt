@@ -8,7 +8,7 @@ use Rattle.motion.specs.declared.shapes.Shape.{Shape}
 use Rattle.inspection.specs.declared.classes.Tally.{Tally}
 use Rattle.inspection.specs.declared.faults.OfferFault.{OfferFault}
 use Rattle.inspection.specs.declared.faults.OfferFault.TheVariants.{ListFull}
-use Rattle.inspection.specs.declared.inspections.offering.PairOutcome.{PairOutcome}
+use Rattle.inspection.specs.declared.inspections.PairOutcome.{PairOutcome}
 use Rattle.inspection.specs.PairOutcomes.{lacks_room_for, with_outcome}
 use Rattle.inspection.specs.Faults.{notice_of_offer}
 use Rattle.inspection.specs.Tallies.{no_tests, total}

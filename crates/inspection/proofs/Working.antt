@@ -1,5 +1,5 @@
 -- Working through requests is a run, and its accepted offers are the run's history.
-use Rattle.std.proofs.Common.{◌≡◌, ℕ, ◌+◌, Bool, cond, is_ok, List, [], ◌∷◌, ◌++◌, Ok, Err, Result, sym, refl, ap, ◌∙◌, subst, append-nil, ◌<◌, ◌≤◌, length, get_or, take, drop, set as list_set, arith}
+use Rattle.std.proofs.Common.{◌≡◌, ℕ, ◌+◌, Bool, cond, is_ok, List, [], ◌∷◌, ◌++◌, Ok, Err, Result, sym, refl, ap, ◌∙◌, subst, subst₂, append-nil, ◌<◌, ◌≤◌, length, get_or, take, drop, set as list_set, arith}
 use Rattle.std.proofs.lemmas.List.{append_assoc, take_more, take_more_set, drop-set-lt, drop-drop}
 use Rattle.sheet.specs.declared.drafts.Draft.{Draft}
 use Rattle.sheet.specs.declared.rows.Point.{Point}
@@ -55,40 +55,20 @@ module _ (set : Shape → Bool) (ps : List Point) (fs : List Face) where
         (subst (λ (m : ℕ). Runs ((h ++ (o ∷ [])) ++ history m qs rs) t) (offer-depth (Faces f g) s u (Ok v) a) e)
     by-offer h f g (Err v) qs rs s u t a e = subst (λ (m : ℕ). Runs (h ++ history m qs rs) t) (offer-depth (Faces f g) s u (Err v) a) e
 
-    same-depth : (h : List Accepted) (qs : List Request) (rs : List Answer) (s u t : State) → u ≡ s → Ends h qs rs u t → Ends h qs rs s t
-    same-depth h qs rs s u t e r = subst (λ (x : State). Ends h qs rs x t) e r
-
     pub worked-runs : (h : List Accepted) (qs : List Request) (rs : List Answer) (s t : State) → Runs h s → Steps set ps fs qs rs s t → Ends h qs rs s t
     worked-runs h [] [] s t r w = here h s t r w
     worked-runs h [] (a ∷ rs) s t r w = absurd w
     worked-runs h (q ∷ qs) [] s t r w = absurd w
-    worked-runs h (request.SetDepth k ∷ qs) (answer.DepthSet x ∷ rs) s t r w =
-        let u : State = w.0 in
-        let a = w.1.0 in
-        by-depth h k x qs rs s u t a.0
-        (worked-runs h qs rs u t (depth_set k x u r a.0 a.1 a.2) w.1.1)
-    worked-runs h (request.SetDepth k ∷ qs) (answer.Offered x ∷ rs) s t r w = absurd w.1.0
-    worked-runs h (request.SetDepth k ∷ qs) (answer.Window x ∷ rs) s t r w = absurd w.1.0
-    worked-runs h (request.Offer f g ∷ qs) (answer.Offered x ∷ rs) s t r w =
-        let u : State = w.0 in
-        let a = w.1.0 in
-        by-offer h f g x qs rs s u t a
-        (worked-runs (history_after h (Faces f g) s.core.depth x) qs rs u t
-        (offered ps fs (Faces f g) x u r (λ b. refl) a) w.1.1)
-    worked-runs h (request.Offer f g ∷ qs) (answer.DepthSet x ∷ rs) s t r w = absurd w.1.0
-    worked-runs h (request.Offer f g ∷ qs) (answer.Window x ∷ rs) s t r w = absurd w.1.0
-    worked-runs h (request.Window Vf i ∷ qs) (answer.Window x ∷ rs) s t r w =
-        let u : State = w.0 in
-        let a = w.1.0 in
-        same-depth h qs rs s u t a.1 (worked-runs h qs rs u t (asked u r a.1) w.1.1)
-    worked-runs h (request.Window Ee i ∷ qs) (answer.Window x ∷ rs) s t r w =
-        let u : State = w.0 in
-        let a = w.1.0 in
-        same-depth h qs rs s u t a.1 (worked-runs h qs rs u t (asked u r a.1) w.1.1)
-    worked-runs h (request.Window Vf i ∷ qs) (answer.DepthSet x ∷ rs) s t r w = absurd w.1.0
-    worked-runs h (request.Window Vf i ∷ qs) (answer.Offered x ∷ rs) s t r w = absurd w.1.0
-    worked-runs h (request.Window Ee i ∷ qs) (answer.DepthSet x ∷ rs) s t r w = absurd w.1.0
-    worked-runs h (request.Window Ee i ∷ qs) (answer.Offered x ∷ rs) s t r w = absurd w.1.0
+    worked-runs h (request.SetDepth k ∷ qs) (a ∷ rs) s t r (u, ((x, (e, b, v, f)), w)) =
+        subst (λ (y : Answer). Ends h (request.SetDepth k ∷ qs) (y ∷ rs) s t) (sym e)
+        (by-depth h k x qs rs s u t b (worked-runs h qs rs u t (depth_set k x u r b v f) w))
+    worked-runs h (request.Offer f g ∷ qs) (a ∷ rs) s t r (u, ((x, (e, b)), w)) =
+        subst (λ (y : Answer). Ends h (request.Offer f g ∷ qs) (y ∷ rs) s t) (sym e)
+        (by-offer h f g x qs rs s u t b (worked-runs (history_after h (Faces f g) s.core.depth x) qs rs u t (offered ps fs (Faces f g) x u r (λ b. refl) b) w))
+    worked-runs h (request.Window Vf i ∷ qs) (a ∷ rs) s t r (u, ((x, (e, b, v)), w)) =
+        subst₂ (λ (y : Answer) (z : State). Ends h (request.Window Vf i ∷ qs) (y ∷ rs) z t) (sym e) v (worked-runs h qs rs u t (asked u r v) w)
+    worked-runs h (request.Window Ee i ∷ qs) (a ∷ rs) s t r (u, ((x, (e, b, v)), w)) =
+        subst₂ (λ (y : Answer) (z : State). Ends h (request.Window Ee i ∷ qs) (y ∷ rs) z t) (sym e) v (worked-runs h qs rs u t (asked u r v) w)
 
   -- ---- one request more, worked at the end
   pub worked-more : (qs : List Request) (rs : List Answer) (q : Request) (a : Answer) (s t u : State)

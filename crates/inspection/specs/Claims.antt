@@ -1,6 +1,6 @@
 -- The claim: what a run's lists and counts say of every test that its accepted offers hold,
 -- and of another run over the same sheet.
-use Rattle.std.specs.Prelude.{◌≡◌, ◌⊎◌, ◌↔◌, ℕ, ◌+◌, ◌*◌, ◌<◌, ◌≤◌, Bool, IsTrue, IsFalse, not, ◌&&◌, List, length, count_by}
+use Rattle.std.specs.Prelude.{◌≡◌, ◌⊎◌, ◌↔◌, ℕ, ◌+◌, ◌*◌, ◌<◌, ◌≤◌, Bool, IsTrue, IsFalse, not, ◌&&◌, List, All, Any, AllPairs, length, count_by, Some, slice_get}
 use Rattle.std.specs.List.{sum_by}
 use Rattle.sheet.specs.declared.drafts.Draft.{Draft}
 use Rattle.motion.specs.declared.shapes.Shape.{Shape}
@@ -12,7 +12,7 @@ use Rattle.inspection.specs.Tallies.{total, tally_in}
 use Rattle.inspection.specs.Offerings.{Offering, Faces, SameOffering}
 use Rattle.inspection.specs.Sheets.{Sheet, face_at}
 use Rattle.inspection.specs.Tests.{Naming, vf_naming, ee_naming, corners_inside}
-use Rattle.inspection.specs.Lists.{At, has}
+use Rattle.inspection.specs.Lists.{has}
 use Rattle.inspection.specs.States.{State}
 use Rattle.inspection.specs.Runs.{Accepted, Run}
 
@@ -32,27 +32,19 @@ module _
   pub record PassedAt (e : E) (i j : ℕ) : Type 0 where
     pub offer : Accepted
     pub test : E
-    pub accepted : At history i offer
-    pub holds : At (n.tests sheet offer.what) j test
+    pub accepted : slice_get history i ≡ Some offer
+    pub holds : slice_get (n.tests sheet offer.what) j ≡ Some test
     pub same : IsTrue (n.same e test)
     pub unshared : IsFalse (n.shared sheet test)
     pub passed : IsFalse (struck_at set offer.depth (n.shape sheet test))
 
-  -- what their list says
-  pub record ClaimOfKind (es : List E) : Type 0 where
-    -- what an accepted offer holds, is not shared and is not listed stays apart for the whole step
-    pub apart : (i j : ℕ) (o : Accepted) (e : E) → At history i o → At (n.tests sheet o.what) j e
-        → IsFalse (n.shared sheet e) → IsFalse (has n.same e es) → Apart (n.shape sheet e)
-    -- a test is listed exactly when some accepted offer passed it
-    pub listed : (e : E) → IsTrue (has n.same e es) ↔ ((i : ℕ) × ((j : ℕ) × PassedAt e i j))
-    -- it stands there a single time
-    pub once : (k l : ℕ) (x y : E) → At es k x → At es l y → IsTrue (n.same x y) → k ≡ l
-    -- of two entries the one that stands first was passed before the other ever was
-    pub order : (k l : ℕ) (x y : E) → At es k x → At es l y → k < l
-        → (i : ℕ) × ((j : ℕ) × (PassedAt x i j
-        × ((i' j' : ℕ) → PassedAt y i' j' → Before i j i' j')))
+  -- x was passed before y ever was
+  abbrev pub PassedBefore : E → E → Type 0
+  PassedBefore x y =
+      (i : ℕ) × ((j : ℕ)
+      × (PassedAt x i j × ((k l : ℕ) → PassedAt y k l → Before i j k l)))
 
-  -- what their tally says
+  -- how they are counted: each in one class
   pub record CountsOfKind (es : List E) (t : Tally) : Type 0 where
     pub shared : t.shared ≡ how_many n sheet history (λ o e. n.shared sheet e)
     pub struck : t.struck ≡ how_many n sheet history
@@ -62,6 +54,21 @@ module _
         (λ o e. not (n.shared sheet e) && not (struck_at set o.depth (n.shape sheet e)))
     pub kept : t.kept ≡ length es
 
+  -- what their list and their tally say, an offer having so many of them
+  pub record ClaimOfKind (each : ℕ) (es : List E) (t : Tally) : Type 0 where
+    -- what an accepted offer holds, is not shared and is not listed stays apart for the whole step
+    pub apart : All (λ o. All (λ e. IsFalse (n.shared sheet e) → IsFalse (has n.same e es)
+        → Apart (n.shape sheet e)) (n.tests sheet o.what)) history
+    -- a test is listed exactly when some accepted offer passed it
+    pub listed : (e : E) → IsTrue (has n.same e es) ↔ ((i : ℕ) × ((j : ℕ) × PassedAt e i j))
+    -- it stands there a single time
+    pub once : AllPairs (λ x y. IsFalse (n.same x y)) es
+    -- the entries stand in the order of first passing
+    pub order : AllPairs PassedBefore es
+    -- each test is counted
+    pub classes : total t ≡ each * length history
+    pub counts : CountsOfKind es t
+
 -- two sets that agree on every test
 abbrev pub Agree : (Shape → Bool) → (Shape → Bool) → Type 0
 Agree set set' = (t : Shape) → Valid t → set' t ≡ set t
@@ -69,9 +76,7 @@ Agree set set' = (t : Shape) → Valid t → set' t ≡ set t
 -- each accepted offer of the other history has the same one here, at an equal or smaller depth
 abbrev pub MatchesOffers : List Accepted → List Accepted → Type 0
 MatchesOffers history other =
-    (i : ℕ) (o : Accepted) → At other i o
-    → (k : ℕ) × ((p : Accepted)
-    × (At history k p × SameOffering o.what p.what × (p.depth ≤ o.depth)))
+    All (λ o. Any (λ p. SameOffering o.what p.what × (p.depth ≤ o.depth)) history) other
 
 abbrev pub Covers : {E : Type 0} → (E → E → Bool) → List E → List E → Type 0
 Covers {E} same es others = (e : E) → IsTrue (has same e others) → IsTrue (has same e es)
@@ -92,8 +97,8 @@ pub record Claim
     (set : Shape → Bool) (d : Draft) (sheet : Sheet) (history : List Accepted) (s : State)
     : Type 0 where
   pub draft : s.core.draft ≡ d
-  pub vf : ClaimOfKind vf_naming set sheet history s.vf.entries
-  pub ee : ClaimOfKind ee_naming set sheet history s.ee.entries
+  pub vf : ClaimOfKind vf_naming set sheet history 6 s.vf.entries (tally_in Vf s.core.tallies)
+  pub ee : ClaimOfKind ee_naming set sheet history 9 s.ee.entries (tally_in Ee s.core.tallies)
   -- another run over the same sheet, of any draft, by a filter of the same set, lists nothing that
   -- is lacking here, where its offers were accepted here
   pub again : (set' : Shape → Bool) → Agree set set'
@@ -101,13 +106,8 @@ pub record Claim
       → MatchesOffers history other
       → Covers vf_naming.same s.vf.entries t.vf.entries
       × Covers ee_naming.same s.ee.entries t.ee.entries
-  pub of_sheet : (i : ℕ) (o : Accepted) → At history i o → OfSheet sheet o.what
-  -- each offer's six tests of the one kind and nine of the other are counted, each in one class
+  pub of_sheet : All (λ o. OfSheet sheet o.what) history
   pub offers : s.core.accepted ≡ length history
-  pub vf_classes : total (tally_in Vf s.core.tallies) ≡ 6 * length history
-  pub ee_classes : total (tally_in Ee s.core.tallies) ≡ 9 * length history
-  pub vf_counts : CountsOfKind vf_naming set sheet history s.vf.entries (tally_in Vf s.core.tallies)
-  pub ee_counts : CountsOfKind ee_naming set sheet history s.ee.entries (tally_in Ee s.core.tallies)
 
 -- what every run that ends in this state has found
 abbrev pub Findings : (Shape → Bool) → State → Type 0

@@ -1,5 +1,5 @@
 -- What a list holds.
-use Rattle.std.specs.Prelude.{◌≡◌, ℕ, ◌-◌, zero, suc, Bool, List, [], ◌∷◌, ◌++◌, length, take, drop}
+use Rattle.std.specs.Prelude.{ℕ, ◌-◌, Bool, List, [], ◌++◌, length, take, drop}
 use Rattle.std.specs.List.{list_any}
 use Rattle.inspection.specs.declared.lists.List.{List as Listing}
 
@@ -29,9 +29,3 @@ without_entries h = record { entries = []; rest = h.entries ++ h.rest; lender = 
 -- some entry is the same
 abbrev pub has : {E : Type 0} → (E → E → Bool) → E → List E → Bool
 has same e es = list_any (same e) es
-
--- x stands at place i
-abbrev pub At : {A : Type 0} → List A → ℕ → A → Type 0
-At [] i x = ⊥
-At (y ∷ ys) zero x = y ≡ x
-At (y ∷ ys) (suc i) x = At ys i x

@@ -1,5 +1,7 @@
 -- The names of tests, and when a test is shared.
 use Rattle.std.specs.Prelude.{ℕ, Bool, if◌then◌else◌, ◌&&◌, ◌||◌, ◌==◌, nat_lt}
+use Rattle.std.specs.Cmp.{IsEquivalence}
+use Rattle.std.proofs.lemmas.Cmp.{nat_eq_equiv, on_equiv, and_equiv}
 use Rattle.sheet.specs.declared.rows.Face.{Face}
 use Rattle.inspection.specs.declared.names.VfName.{VfName}
 use Rattle.inspection.specs.declared.names.EeName.{EeName}
@@ -10,6 +12,18 @@ vf_same x y = x.point == y.point && x.face == y.face
 
 abbrev pub ee_same : EeName → EeName → Bool
 ee_same x y = x.u == y.u && x.v == y.v && x.k == y.k && x.l == y.l
+
+-- both are equivalences
+pub vf_same_equiv : IsEquivalence vf_same
+vf_same_equiv = and_equiv (on_equiv (λ e. e.point) nat_eq_equiv) (on_equiv (λ e. e.face) nat_eq_equiv)
+
+pub ee_same_equiv : IsEquivalence ee_same
+ee_same_equiv =
+    and_equiv
+    (and_equiv
+    (and_equiv (on_equiv (λ e. e.u) nat_eq_equiv) (on_equiv (λ e. e.v) nat_eq_equiv))
+    (on_equiv (λ e. e.k) nat_eq_equiv))
+    (on_equiv (λ e. e.l) nat_eq_equiv)
 
 -- an edge has its lower number first
 abbrev pub edge_of : ℕ → ℕ → Edge

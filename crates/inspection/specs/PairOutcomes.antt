@@ -1,6 +1,6 @@
 -- What the code's outcome of a pair leaves in a state.
 use Rattle.std.specs.Prelude.{Bool, ◌||◌, ◌++◌, length, nat_lt}
-use Rattle.inspection.specs.declared.inspections.offering.PairOutcome.{PairOutcome}
+use Rattle.inspection.specs.declared.inspections.PairOutcome.{PairOutcome}
 use Rattle.inspection.specs.Lists.{with_entries}
 use Rattle.inspection.specs.States.{State, with_counts}
 

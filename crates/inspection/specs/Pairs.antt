@@ -1,5 +1,5 @@
 -- The fifteen tests of two faces, in their order.
-use Rattle.std.specs.Prelude.{ℕ, List, [], ◌∷◌, ◌++◌}
+use Rattle.std.specs.Prelude.{ℕ, List, [], ◌∷◌, ◌++◌, map, flat_map}
 use Rattle.sheet.specs.declared.rows.Face.{Face}
 use Rattle.inspection.specs.declared.names.VfName.{VfName}
 use Rattle.inspection.specs.declared.names.EeName.{EeName}
@@ -19,14 +19,9 @@ vf_tests m f n g = corners_against f n ++ corners_against g m
 abbrev pub edges : Face → List Edge
 edges f = edge_of f.a f.b ∷ edge_of f.b f.c ∷ edge_of f.c f.a ∷ []
 
-abbrev pub edge_against : Edge → List Edge → List EeName
-edge_against e [] = []
-edge_against e (f ∷ fs) = ee_name_of e f ∷ edge_against e fs
-
 -- each edge of the first, against those of the second
 abbrev pub edges_against : List Edge → List Edge → List EeName
-edges_against [] fs = []
-edges_against (e ∷ es) fs = edge_against e fs ++ edges_against es fs
+edges_against es fs = flat_map (λ e. map (ee_name_of e) fs) es
 
 abbrev pub ee_tests : Face → Face → List EeName
 ee_tests f g = edges_against (edges f) (edges g)

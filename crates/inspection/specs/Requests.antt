@@ -1,9 +1,12 @@
 -- Working through requests: one step for each, in their order, and the accepted offers among them.
-use Rattle.std.specs.Prelude.{◌≡◌, ℕ, Bool, if◌then◌else◌, List, [], ◌∷◌, Ok, is_ok}
+use Rattle.std.specs.Prelude.{◌≡◌, ℕ, Bool, if◌then◌else◌, List, [], ◌∷◌, Ok, is_ok, Option, Result}
 use Rattle.sheet.specs.declared.rows.Point.{Point}
 use Rattle.sheet.specs.declared.rows.Face.{Face}
 use Rattle.motion.specs.declared.shapes.Shape.{Shape}
 use Rattle.inspection.specs.declared.kinds.ListKind.TheVariants.{Vf, Ee}
+use Rattle.inspection.specs.declared.faults.OpeningFault.{OpeningFault}
+use Rattle.inspection.specs.declared.faults.OfferFault.{OfferFault}
+use Rattle.inspection.specs.declared.faults.WindowFault.{WindowFault}
 use Rattle.inspection.specs.declared.requests.Request.{Request}
 use Rattle.inspection.specs.declared.requests.Request.TheVariants as request
 use Rattle.inspection.specs.declared.requests.Answer.{Answer}
@@ -18,14 +21,18 @@ use Rattle.inspection.specs.Runs.{Accepted, DepthStep}
 module _ (set : Shape → Bool) (ps : List Point) (fs : List Face) where
   -- a request is answered in the state s, and leaves t
   abbrev pub RequestStep : Request → Answer → State → State → Type 0
-  RequestStep (request.SetDepth k) (answer.DepthSet r) s t =
-      DepthStep k s.core r t.core × (t.vf ≡ s.vf) × (t.ee ≡ s.ee)
-  RequestStep (request.Offer f g) (answer.Offered r) s t = OfferStep set ps fs (Faces f g) s r t
-  RequestStep (request.Window Vf i) (answer.Window r) s t =
-      WindowAnswer vf_naming ps fs s.core s.vf i set r × (t ≡ s)
-  RequestStep (request.Window Ee i) (answer.Window r) s t =
-      WindowAnswer ee_naming ps fs s.core s.ee i set r × (t ≡ s)
-  RequestStep q a s t = ⊥
+  RequestStep (request.SetDepth k) a s t =
+      (r : Result (Unit {0}) OpeningFault) × ((a ≡ answer.DepthSet r)
+      × DepthStep k s.core r t.core × (t.vf ≡ s.vf) × (t.ee ≡ s.ee))
+  RequestStep (request.Offer f g) a s t =
+      (r : Result (Unit {0}) OfferFault) × ((a ≡ answer.Offered r)
+      × OfferStep set ps fs (Faces f g) s r t)
+  RequestStep (request.Window Vf i) a s t =
+      (r : Result (Option (ℕ × ℕ)) WindowFault) × ((a ≡ answer.Window r)
+      × WindowAnswer vf_naming ps fs s.core s.vf i set r × (t ≡ s))
+  RequestStep (request.Window Ee i) a s t =
+      (r : Result (Option (ℕ × ℕ)) WindowFault) × ((a ≡ answer.Window r)
+      × WindowAnswer ee_naming ps fs s.core s.ee i set r × (t ≡ s))
 
   -- as many answers as requests, each by one step, from s to t
   abbrev pub Steps : List Request → List Answer → State → State → Type 0

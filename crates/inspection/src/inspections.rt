@@ -1,20 +1,34 @@
-// The inspection itself. What can be done with it stands in inspections/.
-ghost use Rattle.std.specs.Prelude.{◌≡◌, ◌*◌, ◌≤◌};
+// An inspection of one step of a sheet: opened, offered faces, and asked.
+ghost use Rattle.std.specs.Prelude.{◌≡◌, ◌*◌, ◌<◌, ◌≤◌, Some, is_ok, nat_lt, slice_get, IfOk, IfErr, OnOk, if◌then◌else◌};
+ghost use Rattle.sheet.specs.Checks.{first_fit, fault_notice};
+ghost use Rattle.motion.specs.Depths.{window_at, WindowMeans};
+ghost use Rattle.inspection.specs.Faults.{notice_of_opening, notice_of_offer, notice_of_window};
 ghost use Rattle.inspection.specs.Tallies.{total, tally_in};
+ghost use Rattle.inspection.specs.Sheets.{sheet_in, sheet_of_rows};
+ghost use Rattle.inspection.specs.Lists.{contents_of, entries, without_entries};
+ghost use Rattle.inspection.specs.Tests.{vf_naming, ee_naming};
+ghost use Rattle.inspection.specs.Offerings.{Faces};
 ghost use Rattle.inspection.specs.declared.kinds.ListKind.TheVariants.{Vf, Ee};
+ghost use Rattle.inspection.specs.declared.faults.OfferFault.TheVariants.{ListFull};
 
-use crate::classes::Tally;
-use sheet::Draft;
+use crate::classes::{Counts, Tally};
+use crate::classing::Judge;
+use crate::faults::{OfferFault, OpeningFault, WindowFault};
+use crate::kinds::ListKind;
+use crate::lists::List;
+use crate::names::{EeName, VfName};
+use crate::offers::check_offer;
+use crate::pairs::{ee_tests, vf_tests};
+use crate::sheets::Rows;
+use crate::tests::TestName;
+use arrayvec::ArrayVec;
+use filters::{Filter, window_at};
+use sheet::{Draft, Face, Point};
 
 mod closing;
-mod finding;
-mod offering;
-mod opening;
-mod windows;
 mod working;
 
 pub use closing::Closed;
-pub use opening::Refused;
 pub use working::{Worked, inspect};
 
 /// An inspection of a sheet's step. It holds the draft, so that there is no other of the sheet
@@ -29,6 +43,263 @@ pub struct Inspection<F> {
     accepted: u32,
     ghost depths: { depth ≤ 6 },
     ghost offers: { accepted ≤ 1000000 },
-    ghost vf_classes: { total (tally_in Vf tallies) ≡ 6 * accepted },
-    ghost ee_classes: { total (tally_in Ee tallies) ≡ 9 * accepted },
+    ghost vf_few: { total (tally_in Vf tallies) ≤ 6 * accepted },
+    ghost ee_few: { total (tally_in Ee tallies) ≤ 9 * accepted },
+}
+
+/// What a refused opening hands back.
+#[derive(Drop)]
+pub struct Refused<F> {
+    pub draft: Draft,
+    pub filter: F,
+    pub fault: OpeningFault,
+}
+
+/// What a pair's tests come to: the entries that they add to each list, and their tallies.
+#[derive(Drop)]
+struct PairOutcome {
+    vf: ArrayVec<VfName, 6>,
+    vf_tally: Tally,
+    ee: ArrayVec<EeName, 9>,
+    ee_tally: Tally,
+}
+
+impl<F: Filter> Inspection<F> {
+    ghost use Rattle.inspection.specs.States.{core_of, state_of, core_at_start, with_counts};
+    ghost use Rattle.inspection.specs.Offers.{checks_but_room, Outcome, OfferStep};
+    ghost use Rattle.inspection.specs.PairOutcomes.{lacks_room_for, with_outcome};
+    ghost use Rattle.inspection.specs.Windows.{WindowAnswer, window_checks};
+    ghost use Rattle.inspection.specs.Runs.{depth_checks, Opened, DepthStep};
+    ghost use Rattle.inspection.specs.Claims.{Findings};
+
+    /// Opens an inspection of the draft's sheet, at a depth from 0 to 6: all counts are zero, and
+    /// both lists are emptied. A refusal hands back the draft and the filter, and leaves the lists.
+    pub fn open(
+        draft: Draft,
+        filter: F,
+        depth: u8,
+        vf: &mut List<'_, VfName>,
+        ee: &mut List<'_, EeName>,
+    ) -> Result<Inspection<F>, Refused<F>>
+        ensures fault { fault_notice (λ x. notice_of_opening x.fault) result
+            ≡ first_fit (depth_checks depth) }
+        ensures core { IfOk result (λ i. core_of i ≡ core_at_start draft depth) }
+        ensures filter { IfOk result (λ i. i.filter ≡ filter) }
+        ensures begins { IfOk result (λ i. Opened draft (state_of i vf.new ee.new)) }
+        ensures draft_back { IfErr result (λ x. x.draft ≡ draft) }
+        ensures filter_back { IfErr result (λ x. x.filter ≡ filter) }
+        ensures vf { let old = contents_of vf.old in
+            contents_of vf.new ≡ (if is_ok result then without_entries old else old) }
+        ensures ee { let old = contents_of ee.old in
+            contents_of ee.new ≡ (if is_ok result then without_entries old else old) }
+    {
+        if is_too_deep(depth) {
+            let fault = OpeningFault::TooDeep(depth);
+            return Err(Refused {
+                draft,
+                filter,
+                fault,
+            });
+        }
+        vf.clear();
+        ee.clear();
+        let tallies = [Tally::none(), Tally::none()];
+        Ok(Inspection {
+            draft,
+            filter,
+            depth,
+            tallies,
+            accepted: 0,
+        })
+    }
+
+    /// Sets the depth, at any moment. A depth over 6 is refused, and leaves the one that was set.
+    pub fn set_depth(&mut self, depth: u8) -> Result<(), OpeningFault>
+        ensures step { DepthStep depth (core_of self.old) result (core_of self.new) }
+        ensures filter { self.new.filter ≡ self.old.filter }
+    {
+        if is_too_deep(depth) {
+            return Err(OpeningFault::TooDeep(depth));
+        }
+        self.depth = depth;
+        Ok(())
+    }
+
+    /// Offers two faces, by their numbers from 0: each of their fifteen tests is classed and
+    /// counted, and the kept ones are listed. A fault leaves all as it was. `points` and `faces`
+    /// are the sheet's tables, and may have more rows than it.
+    pub fn offer(
+        &mut self,
+        points: &[Point],
+        faces: &[Face],
+        vf: &mut List<'_, VfName>,
+        ee: &mut List<'_, EeName>,
+        first: u16,
+        second: u16,
+    ) -> Result<(), OfferFault>
+        ensures step { OfferStep (F.Filter.struck self.old.filter) points.now faces.now
+            (Faces first second) (state_of self.old vf.old ee.old) result
+            (state_of self.new vf.new ee.new) }
+        ensures filter { self.new.filter ≡ self.old.filter }
+    {
+        let new = self.class_pair(points, faces, vf, ee, first, second)?;
+        self.accept(&new, vf, ee)
+    }
+
+    /// Makes the checks of an offer, but for the room on the lists, and classes the pair's tests.
+    fn class_pair(
+        &self,
+        points: &[Point],
+        faces: &[Face],
+        vf: &List<'_, VfName>,
+        ee: &List<'_, EeName>,
+        first: u16,
+        second: u16,
+    ) -> Result<PairOutcome, OfferFault>
+        ensures fault { fault_notice notice_of_offer result
+            ≡ first_fit (checks_but_room self.now.draft points.now faces.now (Faces first second)
+            self.now.accepted) }
+        ensures few { OnOk result (self.now.accepted < 1000000) }
+        ensures vf { IfOk result (λ c.
+            Outcome vf_naming (F.Filter.struck self.now.filter) self.now.depth
+            (sheet_in self.now.draft points.now faces.now) (Faces first second)
+            (entries vf.now) c.vf.items c.vf_tally) }
+        ensures ee { IfOk result (λ c.
+            Outcome ee_naming (F.Filter.struck self.now.filter) self.now.depth
+            (sheet_in self.now.draft points.now faces.now) (Faces first second)
+            (entries ee.now) c.ee.items c.ee_tally) }
+    {
+        let rows = check_offer(&self.draft, points, faces, first, second, self.accepted)?;
+        let judge = Judge {
+            rows,
+            filter: &self.filter,
+            depth: self.depth,
+        };
+        let (vf, vf_tally) = judge.class_all(&vf_tests(rows, first, second), vf);
+        let (ee, ee_tally) = judge.class_all(&ee_tests(rows, first, second), ee);
+        Ok(PairOutcome {
+            vf,
+            vf_tally,
+            ee,
+            ee_tally,
+        })
+    }
+
+    /// Lists and counts what a pair's tests come to. Where a list has fewer free places than new
+    /// entries, all is left as it was.
+    fn accept(
+        &mut self,
+        new: &PairOutcome,
+        vf: &mut List<'_, VfName>,
+        ee: &mut List<'_, EeName>,
+    ) -> Result<(), OfferFault>
+        requires few { self.old.accepted < 1000000 }
+        requires vf { total new.now.vf_tally ≤ 6 }
+        requires ee { total new.now.ee_tally ≤ 9 }
+        ensures room { let full = lacks_room_for new.now (state_of self.old vf.old ee.old) in
+            result ≡ (if full then Err ListFull else Ok tt) }
+        ensures state { let old = state_of self.old vf.old ee.old in
+            state_of self.new vf.new ee.new
+            ≡ (if is_ok result then with_outcome new.now old else old) }
+        ensures filter { self.new.filter ≡ self.old.filter }
+    {
+        if vf.free() < new.vf.len() || ee.free() < new.ee.len() {
+            return Err(OfferFault::ListFull);
+        }
+        vf.extend(new.vf.as_slice());
+        ee.extend(new.ee.as_slice());
+        self.count(new.vf_tally, new.ee_tally);
+        Ok(())
+    }
+
+    /// Counts the tests of an accepted offer.
+    fn count(&mut self, vf: Tally, ee: Tally)
+        requires few { self.old.accepted < 1000000 }
+        requires vf { total vf ≤ 6 }
+        requires ee { total ee ≤ 9 }
+        ensures core { core_of self.new ≡ with_counts vf ee (core_of self.old) }
+        ensures filter { self.new.filter ≡ self.old.filter }
+    {
+        self.tallies[ListKind::Vf as usize].add(vf);
+        self.tallies[ListKind::Ee as usize].add(ee);
+        self.accepted += 1;
+    }
+
+    /// The eight counts. With them comes the claim: whatever run ends here, with these lists,
+    /// nobody can name a touch that it missed.
+    pub fn findings(&self, vf: &List<'_, VfName>, ee: &List<'_, EeName>) -> Counts
+        ensures vf { result.vf ≡ tally_in Vf self.now.tallies }
+        ensures ee { result.ee ≡ tally_in Ee self.now.tallies }
+        ensures claim { Findings (F.Filter.struck self.now.filter)
+            (state_of self.now vf.now ee.now) }
+    {
+        Counts::of(&self.tallies)
+    }
+
+    /// The first and the last of the 2^depth parts of the step, from 0, that the filter passes of
+    /// an entry's test, at the depth now set; none where it strikes each. `entry` counts from 0.
+    /// `points` and `faces` are the sheet's tables, and may have more rows than it.
+    ///
+    /// In each part before the first and after the last the entry's features stay apart; where
+    /// there is no window, they do so for the whole step.
+    pub fn window<E: TestName>(
+        &self,
+        points: &[Point],
+        faces: &[Face],
+        list: &List<'_, E>,
+        entry: u32,
+    ) -> Result<Option<(u8, u8)>, WindowFault>
+        ensures { WindowAnswer E.naming points.now faces.now (core_of self.now)
+            (contents_of list.now) entry (F.Filter.struck self.now.filter) result }
+    {
+        let (e, rows) = self.checked_entry(points, faces, list, entry)?;
+        Ok(self.window_of(e, rows))
+    }
+
+    /// An entry whose window can be told, and the rows that its numbers are of: the checks of
+    /// `window`, and no window.
+    pub fn checked_entry<'a, E: TestName>(
+        &self,
+        points: &'a [Point],
+        faces: &'a [Face],
+        list: &List<'_, E>,
+        entry: u32,
+    ) -> Result<(E, Rows<'a>), WindowFault>
+        ensures fault { fault_notice notice_of_window result
+            ≡ first_fit (window_checks E.naming points.now faces.now (core_of self.now)
+            (contents_of list.now) entry) }
+        ensures entry { IfOk result (λ x. slice_get (entries list.now) entry ≡ Some x.0) }
+        ensures rows { IfOk result (λ x.
+            sheet_of_rows x.1 ≡ sheet_in (core_of self.now).draft points.now faces.now) }
+    {
+        let Some(rows) = Rows::of(&self.draft, points, faces) else {
+            return Err(WindowFault::TableTooShort);
+        };
+        let Some(e) = list.get(entry as usize) else {
+            return Err(WindowFault::NoSuchEntry(entry));
+        };
+        if !e.is_inside(rows) {
+            return Err(WindowFault::NotOfTheSheet(entry));
+        }
+        Ok((e, rows))
+    }
+
+    fn window_of<E: TestName>(&self, e: E, rows: Rows<'_>) -> Option<(u8, u8)>
+        ensures value { let shape = E.naming.shape (sheet_of_rows rows.entry) e in
+            result ≡ window_at (F.Filter.struck self.now.filter) self.now.depth shape }
+        ensures meaning { let shape = E.naming.shape (sheet_of_rows rows.entry) e in
+            WindowMeans (F.Filter.struck self.now.filter) self.now.depth shape result }
+    {
+        let test = e.test(rows);
+        let Some(window) = window_at(&self.filter, &test, self.depth) else {
+            unreachable!()
+        };
+        window
+    }
+}
+
+fn is_too_deep(depth: u8) -> bool
+    ensures { result ≡ nat_lt 6 depth }
+{
+    depth > 6
 }

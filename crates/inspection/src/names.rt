@@ -1,7 +1,6 @@
 // The names of tests.
 ghost use Rattle.std.specs.Prelude.{◌≡◌};
-ghost use Rattle.std.proofs.lemmas.Cmp.{nat_eq_equiv, on_equiv, and_equiv};
-ghost use Rattle.inspection.specs.Names.{edge_of, ee_name_of, name_in_order, ee_shared, is_corner, vf_same, ee_same};
+ghost use Rattle.inspection.specs.Names.{edge_of, ee_name_of, name_in_order, ee_shared, is_corner, vf_same, vf_same_equiv, ee_same, ee_same_equiv};
 
 use crate::entries::Entry;
 use sheet::Face;
@@ -25,8 +24,7 @@ pub struct EeName {
 impl Entry for VfName {
     ghost same = { vf_same };
 
-    ghost equivalence = { and_equiv
-        (on_equiv (λ e. e.point) nat_eq_equiv) (on_equiv (λ e. e.face) nat_eq_equiv) };
+    ghost equivalence = { vf_same_equiv };
 
     fn is_same(&self, other: &VfName) -> bool {
         self.point == other.point && self.face == other.face
@@ -36,11 +34,7 @@ impl Entry for VfName {
 impl Entry for EeName {
     ghost same = { ee_same };
 
-    ghost equivalence = { and_equiv
-        (and_equiv
-        (and_equiv (on_equiv (λ e. e.u) nat_eq_equiv) (on_equiv (λ e. e.v) nat_eq_equiv))
-        (on_equiv (λ e. e.k) nat_eq_equiv))
-        (on_equiv (λ e. e.l) nat_eq_equiv) };
+    ghost equivalence = { ee_same_equiv };
 
     fn is_same(&self, other: &EeName) -> bool {
         self.u == other.u && self.v == other.v && self.k == other.k && self.l == other.l

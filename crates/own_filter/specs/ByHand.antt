@@ -1,6 +1,6 @@
 -- What a crew's calls leave, by the rules: the faces f and g are offered at depth 2,
 -- and the other way round at depth 3.
-use Rattle.std.specs.Prelude.{ℕ, Bool, is_some, if◌then◌else◌, List, Option}
+use Rattle.std.specs.Prelude.{ℕ, Bool, is_some, if◌then◌else◌, List, [], ◌∷◌, ◌++◌, Option}
 use Rattle.sheet.specs.Checks.{first_fit}
 use Rattle.sheet.specs.declared.notices.Notice.{Notice}
 use Rattle.sheet.specs.declared.rows.Point.{Point}
@@ -13,6 +13,7 @@ use Rattle.inspection.specs.Offerings.{Offering, Faces}
 use Rattle.inspection.specs.Sheets.{sheet_in}
 use Rattle.inspection.specs.States.{State, with_depth}
 use Rattle.inspection.specs.Offers.{offer_checks, state_after}
+use Rattle.inspection.specs.Runs.{Accepted}
 
 -- the depth set to 3
 abbrev pub deeper : State → State
@@ -30,9 +31,21 @@ module _ (set : Shape → Bool) (ps : List Point) (fs : List Face) where
       if is_some (fault_of_offer o s) then s
       else state_after set (sheet_in s.core.draft ps fs) o s
 
+  -- the accepted offers after it, where there were these before
+  abbrev pub with_offer : Offering → State → List Accepted → List Accepted
+  with_offer o s h =
+      if is_some (fault_of_offer o s) then h
+      else h ++ (record { what = o; depth = s.core.depth } ∷ [])
+
   -- what both offers leave, where the first is accepted
   abbrev pub after_both : ℕ → ℕ → State → State
   after_both f g s = after_offer (Faces g f) (deeper (after_offer (Faces f g) s))
+
+  -- and which of them are accepted
+  abbrev pub accepted_of_both : ℕ → ℕ → State → List Accepted
+  accepted_of_both f g s =
+      with_offer (Faces g f) (deeper (after_offer (Faces f g) s))
+      (record { what = Faces f g; depth = s.core.depth } ∷ [])
 
 -- the counts of both kinds of tests
 abbrev pub counts_in : State → Counts

@@ -2,21 +2,22 @@
 ghost use Rattle.std.specs.Prelude.{◌≡◌, ◌↔◌, IsNone, IsSome, IfNone, IfSome};
 ghost use Rattle.inspection.specs.Offerings.{Faces};
 ghost use Rattle.inspection.specs.Sheets.{sheet_in};
-ghost use Rattle.inspection.specs.Lists.{contents_of, entries, without_entries};
+ghost use Rattle.inspection.specs.Lists.{contents_of, without_entries};
 ghost use Rattle.inspection.specs.States.{state_of, state_at_start};
 ghost use Rattle.inspection.specs.Offers.{OfferStep};
-ghost use Rattle.own_filter.specs.ByHand.{fault_of_offer, after_both, counts_in};
-ghost use Rattle.own_filter.specs.Conclusions.{Conclusion};
+ghost use Rattle.inspection.specs.Claims.{Claim};
+ghost use Rattle.own_filter.specs.ByHand.{fault_of_offer, after_both, accepted_of_both, counts_in};
 
 use filters::Filter;
 use inspection::{Counts, EeName, Inspection, List, OfferFault, VfName};
+use report::report;
 use sheet::{Draft, Face, Point};
 
-/// Offers two faces at depth 2, is refused, sets the depth to 3, asks for a window, and offers them
-/// the other way round.
+/// Offers two faces at depth 2, is refused twice, sets the depth to 3, asks for a window and for the
+/// report, and offers them the other way round.
 ///
-/// The counts, or none where the first offer is refused. What a crew concludes from them and from
-/// the lists rests on the claim that comes with the findings, and on nothing else of the inspection.
+/// The counts, or none where the first offer is refused. With them and the lists comes the whole
+/// claim, from the contracts of these calls and nothing else of the inspection.
 pub fn inspect_by_hand<F: Filter + Drop>(
     draft: Draft,
     filter: F,
@@ -38,18 +39,24 @@ pub fn inspect_by_hand<F: Filter + Drop>(
         let end = after_both set points.now faces.now first second start in
         IfSome result (λ counts. (counts ≡ counts_in end)
         × (contents_of vf.new ≡ end.vf) × (contents_of ee.new ≡ end.ee)) }
-    ensures found { let set = F.Filter.struck filter in
+    ensures claim { let set = F.Filter.struck filter in
         let sheet = sheet_in draft points.now faces.now in
-        IfSome result (λ counts.
-        Conclusion set sheet first second (entries vf.new) (entries ee.new) counts) }
+        let start = state_at_start draft 2 (contents_of vf.old) (contents_of ee.old) in
+        let end = after_both set points.now faces.now first second start in
+        let history = accepted_of_both set points.now faces.now first second start in
+        IfSome result (λ counts. Claim set draft sheet history end) }
 {
     let inspection = open(draft, filter, vf, ee);
     let Some(mut inspection) = accepted(inspection, points, faces, vf, ee, first, second) else {
         return None;
     };
-    let _ = inspection.offer(points, faces, vf, ee, first, first);
-    let _ = inspection.set_depth(3);
+    offer_in_vain(&mut inspection, points, faces, vf, ee, first, second);
+    let Ok(()) = inspection.set_depth(3) else {
+        unreachable!()
+    };
     let _ = inspection.window(points, faces, vf, 0);
+    let mut output = [0; 96];
+    let _ = report(&inspection, points, faces, vf, ee, &mut output);
     let _ = offer_turned(&mut inspection, points, faces, vf, ee, first, second);
     Some(inspection.findings(vf, ee))
 }
@@ -97,6 +104,26 @@ fn accepted<F: Filter + Drop>(
         return None;
     };
     Some(inspection)
+}
+
+/// Makes two offers that are refused: a face with itself, and two faces over a table that is cut
+/// short before the first of them.
+fn offer_in_vain<F: Filter>(
+    inspection: &mut Inspection<F>,
+    points: &[Point],
+    faces: &[Face],
+    vf: &mut List<'_, VfName>,
+    ee: &mut List<'_, EeName>,
+    first: u16,
+    second: u16,
+)
+    ensures state { state_of inspection.new vf.new ee.new
+        ≡ state_of inspection.old vf.old ee.old }
+    ensures filter { inspection.new.filter ≡ inspection.old.filter }
+{
+    let _ = inspection.offer(points, faces, vf, ee, first, first);
+    let short = &faces[..faces.len().min(first as usize)];
+    let _ = inspection.offer(points, short, vf, ee, first, second);
 }
 
 /// Offers two faces the other way round.

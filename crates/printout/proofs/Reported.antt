@@ -69,10 +69,6 @@ claim_found set d s h f t core vf ee c =
       again = k.again;
       of_sheet = k.of_sheet;
       offers = k.offers;
-      vf_classes = k.vf_classes;
-      ee_classes = k.ee_classes;
-      vf_counts = k.vf_counts;
-      ee_counts = k.ee_counts;
     }
 
 module _ (d : Draft) (ps : List Point) (fs : List Face) where

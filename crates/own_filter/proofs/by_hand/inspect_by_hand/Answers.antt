@@ -1,12 +1,13 @@
-use Rattle.std.proofs.Common.{◌≡◌, ◌↔◌, IsSome, Bool, false, true, sym, ap, ◌∙◌, subst, subst₂}
+use Rattle.std.proofs.Common.{◌≡◌, ◌↔◌, IsSome, Bool, false, true, List, [], ◌∷◌, Ok, refl, ap, ◌∙◌, subst₂, lit≤}
 use Rattle.motion.specs.declared.shapes.Shape.{Shape}
 use Rattle.inspection.specs.Sheets.{sheet_in}
 use Rattle.inspection.specs.Offerings.{Faces}
 use Rattle.inspection.specs.Lists.{contents_of}
-use Rattle.inspection.specs.States.{State, core_of, state_of, state_at_start}
-use Rattle.own_filter.specs.ByHand.{fault_of_offer, deeper, after_both, counts_in}
-use Rattle.own_filter.specs.Conclusions.{Conclusion}
-use Rattle.own_filter.proofs.ByHand.{depth-three, ended, concluded}
+use Rattle.inspection.specs.States.{State, state_of, state_at_start}
+use Rattle.inspection.specs.Runs.{Accepted, opened, depth_set, offered, asked}
+use Rattle.inspection.specs.Claims.{Claim}
+use Rattle.own_filter.specs.ByHand.{fault_of_offer, deeper, after_offer, with_offer, after_both, counts_in}
+use Rattle.own_filter.proofs.ByHand.{leaves, adds}
 use Rattle.own_filter.proofs.by_hand.inspect_by_hand.Goals as goal
 
 -- the inspection begins by the rule
@@ -16,7 +17,7 @@ returns-in_default-clause-refused g c =
     subst₂ (λ (s : State) (set : Shape → Bool). (false ≡ false) ↔ IsSome (fault_of_offer set a.points.now a.faces.now (Faces a.first a.second) s))
     c.open-inspection.ensures.state (ap g.F.Filter.struck c.open-inspection.ensures.filter) c.in_default.ensures.refused
 
--- and the filter is the same all along
+-- the calls, one after the other, are a run by the same filter
 pub returns : goal.returns
 returns g c =
     let a = c.args in
@@ -24,31 +25,34 @@ returns g c =
     let set = g.F.Filter.struck a.filter in
     let ps = a.points.now in
     let fs = a.faces.now in
-    let vf = contents_of a.vf.now in
-    let ee = contents_of a.ee.now in
+    let start : State = state_at_start a.draft 2 (contents_of a.vf.now) (contents_of a.ee.now) in
     let t : State = state_of c.in-Some.inspection c.accepted.new.vf c.accepted.new.ee in
-    let u : State = state_of c.offer.new.self c.offer.new.vf c.offer.new.ee in
+    let u : State = state_of c.offer_in_vain.new.inspection c.offer_in_vain.new.vf c.offer_in_vain.new.ee in
+    let v : State = state_of c.set_depth.new.self c.offer_in_vain.new.vf c.offer_in_vain.new.ee in
     let w : State = state_of c.offer_turned.new.inspection c.offer_turned.new.vf c.offer_turned.new.ee in
     let e0 = c.open-inspection.ensures.filter in
     let e1 = i.filter ∙ e0 in
-    let e2 = c.offer.ensures.filter ∙ e1 in
-    let e3 = c.set_depth.ensures.filter ∙ e2 in
+    let e2 = c.offer_in_vain.ensures.filter ∙ e1 in
+    let e3 = c.in-Ok.ensures.filter ∙ e2 in
     let e4 = c.offer_turned.ensures.filter ∙ e3 in
-    let deep : state_of c.set_depth.new.self c.offer.new.vf c.offer.new.ee ≡ deeper u
-    = λ k. record { core = depth-three u.core (core_of c.set_depth.new.self) c.set_depth.result c.set_depth.ensures.step k; vf = u.vf; ee = u.ee } in
     let one = rw (c.open-inspection.ensures.state, e0) at i.step in
-    let same = rw e1 at c.offer.ensures.step in
-    let other = rw (deep, e3) at c.offer_turned.ensures.step in
-    let end : w ≡ after_both set ps fs a.first a.second (state_at_start a.draft 2 vf ee)
-    = ended set a.draft ps fs a.first a.second vf ee t u w c.offer.result c.offer_turned.result one same other in
-    let counts : c.findings.result ≡ counts_in w = λ k. record { vf = c.findings.ensures.vf k; ee = c.findings.ensures.ee k } in
+    let other = rw e3 at c.offer_turned.ensures.step in
+    let before : v ≡ deeper (after_offer set ps fs (Faces a.first a.second) start)
+    = (λ k. record { core = c.in-Ok.ensures.step.core k; vf = u.vf; ee = u.ee }) ∙ ap deeper (c.offer_in_vain.ensures.state ∙ leaves set ps fs (Faces a.first a.second) start t (Ok tt) one) in
+    let end : w ≡ after_both set ps fs a.first a.second start = leaves set ps fs (Faces a.second a.first) v w c.offer_turned.result other ∙ ap (after_offer set ps fs (Faces a.second a.first)) before in
+    let run1 = offered ps fs (Faces a.first a.second) (Ok tt) t (opened (record { depth = lit≤ tt; core = refl; vf = refl; ee = refl })) (λ h. refl) one in
+    let run2 = asked u run1 c.offer_in_vain.ensures.state in
+    let run3 = depth_set 3 (Ok tt) v run2 c.in-Ok.ensures.step refl refl in
+    let run4 = offered ps fs (Faces a.second a.first) c.offer_turned.result w run3 (λ h. refl) other in
+    let first : List Accepted = record { what = Faces a.first a.second; depth = 2 } ∷ [] in
+    let history = adds set ps fs (Faces a.second a.first) v w first c.offer_turned.result other ∙ ap (λ (s : State). with_offer set ps fs (Faces a.second a.first) s first) before in
+    let claim = (rw e4 at c.findings.ensures.claim) a.draft (sheet_in a.draft ps fs) _ run4 in
     record {
       refused =
           subst₂ (λ (s : State) (set : Shape → Bool). (true ≡ false) ↔ IsSome (fault_of_offer set ps fs (Faces a.first a.second) s))
           c.open-inspection.ensures.state (ap g.F.Filter.struck e0) i.refused;
       refused_vf = tt;
       refused_ee = tt;
-      state = (counts ∙ ap counts_in end, ap (λ (k : State). k.vf) end, ap (λ (k : State). k.ee) end);
-      found = subst (Conclusion set (sheet_in a.draft ps fs) a.first a.second w.vf.entries w.ee.entries) (sym counts)
-          (concluded set a.draft ps fs a.first a.second vf ee t u w c.offer.result c.offer_turned.result one same other (rw e4 at c.findings.ensures.claim));
+      state = ((λ k. record { vf = c.findings.ensures.vf k; ee = c.findings.ensures.ee k }) ∙ ap counts_in end, ap (λ (k : State). k.vf) end, ap (λ (k : State). k.ee) end);
+      claim = subst₂ (Claim set a.draft (sheet_in a.draft ps fs)) history end claim;
     }
