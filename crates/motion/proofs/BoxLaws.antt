@@ -1,5 +1,5 @@
 -- Box keeps both laws, and Slab strikes what it strikes.
-use Rattle.std.proofs.Common.{◌≡◌, ◌↔◌, ℕ, ◌<◌, true, ◌||◌, List, [], ◌∷◌, map, ℤ, pos, ◌+ℤ◌, ◌-ℤ◌, ◌<ℤ◌, get_or, sym, ap, ◌∙◌, subst, ⊎_elim, arith}
+use Rattle.std.proofs.Common.{◌≡◌, ◌↔◌, ℕ, ◌<◌, Bool, true, ◌||◌, List, [], ◌∷◌, map, ℤ, pos, ◌+ℤ◌, ◌-ℤ◌, ◌<ℤ◌, get_or, sym, ap, ◌∙◌, subst, ⊎_elim, arith}
 use mathlib.Core.Path.{transport}
 use lib.Signed.{lt_z}
 use borrow.Author.Differences.{ints}
@@ -22,7 +22,7 @@ use Rattle.motion.proofs.Ring.{◌⊖◌, ring}
 use Rattle.motion.proofs.Expressions.{◌-ᵉ◌, dotᵉ, vars, put}
 use Rattle.motion.proofs.Members.{Each, each-map, each-both, each-swap}
 use Rattle.motion.proofs.Halves.{at_start, at_middle, at_end}
-use Rattle.motion.proofs.SlabLaws.{from-pairs, along-lawful, dot-sum, ones-of, others-of}
+use Rattle.motion.proofs.SlabLaws.{Pair, Pairs, from-pairs, along-lawful, dot-sum, ones-of, others-of}
 use Rattle.motion.proofs.RowLaws.{row-lawful}
 
 -- an axis is the product with a short direction
@@ -93,20 +93,15 @@ module _ (axis : V3 → ℤ) where
   under-kinds Vf p a b c = (under-is p [] a (b ∷ c ∷ []), under-is a (b ∷ c ∷ []) p [])
   under-kinds Ee p a b c = (under-is b (c ∷ []) a (p ∷ []), under-is a (p ∷ []) b (c ∷ []))
 
-  -- what holds of all coordinates holds of each point's start and end
-  each-point : (P : ℤ → Type 0) (ms : List Moving) → Each P (coordinates axis ms) → Each (λ m. P (axis m.start) × P (axis m.end)) ms
-  each-point P [] h = tt
-  each-point P (m ∷ ms) (s, (e, h)) = ((s, e), each-point P ms h)
+  -- two points have at start and at end what all their coordinates have
+  module _ (R : ℤ → ℤ → Type 0) (f : V3 → Bool) (k : (u v : V3) → R (axis u) (axis v) → f (u -ᵛ v) ≡ true) where
+    one-pairs : (m : Moving) (ns : List Moving) → Each (R (axis m.start)) (coordinates axis ns) → Each (R (axis m.end)) (coordinates axis ns) → Each (Pair f m) ns
+    one-pairs m [] p q = tt
+    one-pairs m (n ∷ ns) (s, (_, p)) (_, (e, q)) = ((k m.start n.start s, k m.end n.end e), one-pairs m ns p q)
 
-  each-pair : (R : ℤ → ℤ → Type 0) (ms ns : List Moving) → Each (λ x. Each (R x) (coordinates axis ns)) (coordinates axis ms)
-      → Each (λ m. Each (λ n. R (axis m.start) (axis n.start) × R (axis m.end) (axis n.end)) ns) ms
-  each-pair R ms ns h = each-map here ms (each-point (λ x. Each (R x) (coordinates axis ns)) ms h)
-    where
-      here : (m : Moving) → Each (R (axis m.start)) (coordinates axis ns) × Each (R (axis m.end)) (coordinates axis ns)
-          → Each (λ n. R (axis m.start) (axis n.start) × R (axis m.end) (axis n.end)) ns
-      here m (s, e) =
-          each-map (λ n q. (q.0.0, q.1.1)) ns
-          (each-both (λ n. R (axis m.start) (axis n.start) × R (axis m.start) (axis n.end)) (λ n. R (axis m.end) (axis n.start) × R (axis m.end) (axis n.end)) ns (each-point (R (axis m.start)) ns s) (each-point (R (axis m.end)) ns e))
+    all-pairs : (ms ns : List Moving) → Each (λ x. Each (R x) (coordinates axis ns)) (coordinates axis ms) → Pairs f ms ns
+    all-pairs [] ns h = tt
+    all-pairs (m ∷ ms) ns (s, (e, h)) = (one-pairs m ns s e, all-pairs ms ns h)
 
 module _ (axis : V3 → ℤ) (a : Axis axis) where
   -- ---- what Box strikes on an axis, Slab strikes along it
@@ -129,12 +124,9 @@ module _ (axis : V3 → ℤ) (a : Axis axis) where
   along t h =
       let k = under-kinds axis t.kind t.p t.a t.b t.c in
       ⊎_elim
-      (λ e. or_right (pairs (above a.way) t) _ (from-pairs (below a.way) (first t) (second t)
-      (each-map (λ m. each-map (λ n q. (is-below m.start n.start q.0, is-below m.end n.end q.1)) (second t)) (first t)
-      (each-pair axis (λ x y. x <ℤ y) (first t) (second t) (k.0.0 e)))))
+      (λ e. or_right (pairs (above a.way) t) _ (from-pairs (below a.way) (first t) (second t) (all-pairs axis (λ x y. x <ℤ y) (below a.way) is-below (first t) (second t) (k.0.0 e))))
       (λ e. or_left (pairs (above a.way) t) _ (from-pairs (above a.way) (first t) (second t)
-      (each-map (λ m. each-map (λ n q. (is-above m.start n.start q.0, is-above m.end n.end q.1)) (second t)) (first t)
-      (each-pair axis (λ x y. y <ℤ x) (first t) (second t) (each-swap (λ x y. x <ℤ y) (coordinates axis (second t)) (coordinates axis (first t)) (k.1.0 e))))))
+      (all-pairs axis (λ x y. y <ℤ x) (above a.way) is-above (first t) (second t) (each-swap (λ x y. x <ℤ y) (coordinates axis (second t)) (coordinates axis (first t)) (k.1.0 e)))))
       (or_cases (under axis (first t) (second t)) (under axis (second t) (first t)) h)
 
   -- ---- in a half each coordinate is the sum of two

@@ -9,7 +9,7 @@ use Rattle.motion.specs.declared.shapes.Moving.{Moving}
 use Rattle.motion.specs.declared.shapes.Shape.{Shape}
 use Rattle.motion.specs.Vectors.{◌+ᵛ◌, ◌-ᵛ◌, dot}
 use Rattle.motion.specs.Features.{first, second}
-use Rattle.motion.specs.Laws.{Within, Apart, Lawful, portion, half, after}
+use Rattle.motion.specs.Laws.{Within, Apart, Lawful, portion, half}
 use Rattle.std.specs.List.{list_all}
 use Rattle.motion.specs.Slab.{pairs, above, below, parted_along, directions, slab_set}
 use Rattle.motion.proofs.Ring.{◌⊕◌, ring}
@@ -21,8 +21,11 @@ use Rattle.motion.proofs.Members.{Each, each-map, all-to-each, each-to-all, each
 use Rattle.motion.proofs.Separating.{Beyonds, beyonds-apart, opposite, opposite-dot, opposite-within}
 
 -- ---- pairs as a test and as a fact
+abbrev pub Pair : (V3 → Bool) → Moving → Moving → Type 0
+Pair f m n = (f (m.start -ᵛ n.start) ≡ true) × (f (m.end -ᵛ n.end) ≡ true)
+
 abbrev pub Pairs : (V3 → Bool) → List Moving → List Moving → Type 0
-Pairs f ms ns = Each (λ m. Each (λ n. (f (m.start -ᵛ n.start) ≡ true) × (f (m.end -ᵛ n.end) ≡ true)) ns) ms
+Pairs f ms ns = Each (λ m. Each (Pair f m) ns) ms
 
 module _ (f : V3 → Bool) where
   abbrev both : Moving → Moving → Bool
@@ -72,13 +75,11 @@ below-adds d u v h k = go (dot d u) (dot d v) (dot d (u +ᵛ v)) (dot-sum d u v)
     go x y z e h k = grind (arith, ints)
 
 module _ (f : V3 → Bool) (adds : Adds f) where
-  pair-first : (m n : Moving) → (f (m.start -ᵛ n.start) ≡ true) × (f (m.end -ᵛ n.end) ≡ true)
-      → (f (after 1 0 m -ᵛ after 1 0 n) ≡ true) × (f (after 1 1 m -ᵛ after 1 1 n) ≡ true)
+  pair-first : (m n : Moving) → Pair f m n → Pair f (portion 1 0 m) (portion 1 0 n)
   pair-first m n (s, e) =
       (ap f (sym (minus-start m n)) ∙ adds (m.start -ᵛ n.start) (m.start -ᵛ n.start) s s, ap f (sym (minus-middle m n)) ∙ adds (m.start -ᵛ n.start) (m.end -ᵛ n.end) s e)
 
-  pair-last : (m n : Moving) → (f (m.start -ᵛ n.start) ≡ true) × (f (m.end -ᵛ n.end) ≡ true)
-      → (f (after 1 1 m -ᵛ after 1 1 n) ≡ true) × (f (after 1 2 m -ᵛ after 1 2 n) ≡ true)
+  pair-last : (m n : Moving) → Pair f m n → Pair f (portion 1 1 m) (portion 1 1 n)
   pair-last m n (s, e) =
       (ap f (sym (minus-middle m n)) ∙ adds (m.start -ᵛ n.start) (m.end -ᵛ n.end) s e, ap f (sym (minus-end m n)) ∙ adds (m.end -ᵛ n.end) (m.end -ᵛ n.end) e e)
 
