@@ -3,9 +3,9 @@ use Rattle.std.proofs.Common.{◌≡◌, ℕ, List, Some, Option, Ok, Err, Resul
 use Rattle.std.specs.Option.{option_map}
 use Rattle.hosts.specs.Events.{Event, Printed, Stored, Call, Printing, Storing}
 use Rattle.hosts.specs.Traces.{CutOff}
-use Rattle.files.specs.Deeds.{Deed, PrintedOut, Flushed, StoredAt, Task, PrintingOut, Flushing, StoringAt, FailsWithin}
+use Rattle.files.specs.Deeds.{Deed, PrintedOut, Flushed, StoredAt, Task, PrintingOut, Flushing, StoringAt}
 use Rattle.files.specs.declared.placed.Placed.{Placed}
-use Rattle.files.specs.Placed.{deed_of, call_of, DoesIfAny, FailsIfAny, DoesPlaced, FailsPlaced, TriesToFlush, Runs, StopsEarly, at_work, at_its_end}
+use Rattle.files.specs.Placed.{deed_of, call_of, DoesIfAny, FailsIfAny, DoesPlaced, FailsPlaced, TriesToFlush, StopsEarly, at_work}
 
 module _ {D P F E : Type 0} (path : P → F → List ℕ) (target : P → Option (List ℕ)) (does : D → Deed F → D → Type 0) (fails : D → Task F → E → D → Type 0) where
   call_placed : {X : Type 0} (s t : Placed D P) (event : List ℕ → Event F) (call : Call F) (deed : List ℕ → Deed F) (task : Task F) (given bytes : List ℕ) (r : Result X E)
@@ -44,7 +44,3 @@ module _ {D P F E X : Type 0} (does : D → Deed F → D → Type 0) (fails : D 
   pub stops_at_work : {Y : Type 0} (s m t : Placed D P) (e : E) (r : Result Y E) → Works s (Err e) m
       → MatchResult r (λ x. does m.disk Flushed t.disk) (λ e. fails m.disk Flushing e t.disk) → StopsEarly does fails Works lasts s e t
   stops_at_work s m t e r works flushed = at_work m works (tried m.disk t.disk r flushed)
-
-  -- an ending that fails, as the exit of a `?` answers it
-  pub stops_at_its_end : (s m t : Placed D P) (x : X) (e : E) (r : Result X E) → Works s (Ok x) m → FailsWithin does fails (lasts m.paths x) m.disk e t.disk → r ≡ Err e → Runs does fails Works lasts s r t
-  stops_at_its_end s m t x e r works failed is = subst (λ r. Runs does fails Works lasts s r t) (sym is) (at_its_end m x works failed)
