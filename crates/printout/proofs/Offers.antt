@@ -17,7 +17,8 @@ use Rattle.inspection.specs.declared.faults.OfferFault.{OfferFault}
 use Rattle.inspection.specs.Classes.{Rules, rules_at, class_of, entries_with, entries_after}
 use Rattle.inspection.specs.Faults.{check, notice_of_offer}
 use Rattle.inspection.specs.Lists.{Contents, with_entries}
-use Rattle.inspection.specs.Offerings.{Offering, Faces}
+use Rattle.inspection.specs.declared.offerings.Offering.{Offering}
+use Rattle.inspection.specs.declared.offerings.Offering.TheVariants.{Faces}
 use Rattle.inspection.specs.Offers.{lacks_rows, lacks_room, pair_checks, offer_checks, room_check, entries_by, tally_by, OfferStep}
 use Rattle.inspection.specs.Runs.{Run, offered as run_offered}
 use Rattle.inspection.specs.Sheets.{Sheet, sheet_in, face_at, moving_of}

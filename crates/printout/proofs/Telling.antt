@@ -8,7 +8,7 @@ use Rattle.hosts.proofs.Fronts.{whole, front_of, front_of_front, front_behind}
 use Rattle.hosts.proofs.Histories.{prints_store_nothing, prints_read_nothing}
 use Rattle.sheet.specs.declared.notices.Notice.{Notice}
 use Rattle.motion.specs.declared.shapes.Shape.{Shape}
-use Rattle.inspection.specs.Offerings.{Offering}
+use Rattle.inspection.specs.declared.offerings.Offering.{Offering}
 use Rattle.inspection.specs.Sheets.{Sheet}
 use Rattle.printout.specs.Printouts.{notice_line}
 use Rattle.printout.specs.Progress.{Tells, TellsInPart, Says, SaysInPart}

@@ -7,7 +7,7 @@ use Rattle.hosts.proofs.Histories.{went_on}
 use Rattle.sheet.specs.declared.rows.Point.{Point}
 use Rattle.sheet.specs.declared.rows.Face.{Face}
 use Rattle.motion.specs.declared.shapes.Shape.{Shape}
-use Rattle.inspection.specs.Offerings.{Offering}
+use Rattle.inspection.specs.declared.offerings.Offering.{Offering}
 use Rattle.inspection.specs.Sheets.{Sheet}
 use Rattle.inspection.specs.States.{State}
 use Rattle.printout.specs.Progress.{Made, Tells, TellsInPart, Offers}

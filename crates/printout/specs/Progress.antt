@@ -7,13 +7,14 @@ use Rattle.sheet.specs.declared.rows.Point.{Point}
 use Rattle.sheet.specs.declared.rows.Face.{Face}
 use Rattle.motion.specs.declared.shapes.Shape.{Shape}
 use Rattle.inspection.specs.Offers.{lacks_rows}
-use Rattle.inspection.specs.Offerings.{Offering}
+use Rattle.inspection.specs.declared.offerings.Offering.{Offering}
 use Rattle.inspection.specs.Runs.{Run}
 use Rattle.inspection.specs.Sheets.{Sheet, sheet_in}
 use Rattle.inspection.specs.States.{State}
 use Rattle.inspection.specs.Tests.{vf_inside, ee_inside}
+use Rattle.inspection.specs.PairBytes.{offers_in}
 use Rattle.printout.specs.Outcomes.{same_file}
-use Rattle.printout.specs.Walks.{Walk, places, pairs_in, walked, refusal_lines, refused_pairs}
+use Rattle.printout.specs.Walks.{Walk, places, walked, refusal_lines, refused_pairs}
 use Rattle.printout.specs.declared.plan_files.PlanFile.{PlanFile}
 use Rattle.printout.specs.declared.plan_files.PlanFile.TheVariants.{Pairs}
 
@@ -68,7 +69,7 @@ module _ {S E X : Type 0} (does : S → Event PlanFile → S → Type 0) (fails 
 -- ---- the pairs of the plan's file are offered as they come
 -- those that came
 abbrev pub pairs_came : List (Event PlanFile) → List Offering
-pairs_came es = pairs_in (came (same_file Pairs) es)
+pairs_came es = offers_in (came (same_file Pairs) es)
 
 -- only that file is read, in so many pieces
 pub record ReadsPairs (files : List PlanFile) : Type 0 where
@@ -92,7 +93,7 @@ pub record TellsFileInPart (w v : Walk) (es : List (Event PlanFile)) (call : Cal
   pub files : ReadsPairs (files_read es ++ unread call)
   -- the pairs that came are the first of the file's
   pub first : (all : List ℕ) → came (same_file Pairs) es ≡ take (asked (same_file Pairs) es) all
-      → IsFront (pairs_came es) (pairs_in all)
+      → IsFront (pairs_came es) (offers_in all)
   -- where reading fails, all is told of those that came
   pub told : (f : PlanFile) → call ≡ Reading f → refusal_lines v ≡ refusal_lines w ++ printed es
 
