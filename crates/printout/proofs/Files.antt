@@ -209,6 +209,7 @@ module _ {S E : Type 0} (does : S → Event PlanFile → S → Type 0) (fails : 
 
     -- it was full, and all goes on
     pub full_piece : (k : S) → length chunk ≡ size → Offers {X = Unit {0}} does fails set ps fs (offers_in chunk) t u j (Ok tt) k → Going s u h k
+    unfolding Offers
     full_piece k full offers d sheet w made =
         let a = going d sheet w made in
         let v = walked set sheet w (pairs_came a.events) in
@@ -237,6 +238,7 @@ module _ {S E : Type 0} (does : S → Event PlanFile → S → Type 0) (fails : 
 
     -- it was short: that is the end
     pub last_piece : (k : S) → length chunk < size → Offers {X = Unit {0}} does fails set ps fs (offers_in chunk) t u j (Ok tt) k → OffersFile {X = Unit {0}} does fails set ps fs s u h (Ok tt) k
+    unfolding Offers
     last_piece k short offers d sheet w made =
         let a = going d sheet w made in
         let v = walked set sheet w (pairs_came a.events) in
@@ -263,6 +265,7 @@ module _ {S E : Type 0} (does : S → Event PlanFile → S → Type 0) (fails : 
 
     -- a call fails while its pairs are offered
     pub piece_in_part : (k : S) (e : E) (z : State) → Offers {X = Unit {0}} does fails set ps fs (offers_in chunk) t u j (Err e) k → OffersFile {X = Unit {0}} does fails set ps fs s z h (Err e) k
+    unfolding Offers
     piece_in_part k e z offers d sheet w made =
         let a = going d sheet w made in
         let v = walked set sheet w (pairs_came a.events) in

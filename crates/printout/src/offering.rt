@@ -2,11 +2,9 @@
 ghost use Rattle.std.specs.Prelude.{◌≡◌, ◌≤◌, [], ◌∷◌, MatchResult};
 ghost use Rattle.hosts.specs.Events.{Stored, Storing};
 ghost use Rattle.hosts.specs.Traces.{CutOff};
-ghost use Rattle.hosts.specs.Works.{Worked};
 ghost use Rattle.inspection.specs.States.{state_of};
 ghost use Rattle.inspection.specs.PairBytes.{offers_in};
-ghost use Rattle.printout.specs.Printouts.{notice_line};
-ghost use Rattle.printout.specs.Progress.{Offers, Says, SaysInPart};
+ghost use Rattle.printout.specs.Progress.{Offers, Refuses};
 ghost use Rattle.printout.specs.Walks.{pair_bytes};
 
 use crate::notices::print_notice;
@@ -41,6 +39,7 @@ pub(crate) fn offer_pairs<F: Filter, H: Host<File = PlanFile>>(
 }
 
 /// Offers a pair.
+#[tactic(auto, using(crate::proofs::Offers::offer_accepted, crate::proofs::Offers::offer_refused))]
 fn offer_pair<F: Filter, H: Host<File = PlanFile>>(
     inspection: &mut Inspection<F>,
     points: &[Point],
@@ -64,15 +63,13 @@ fn offer_pair<F: Filter, H: Host<File = PlanFile>>(
 }
 
 /// Prints why a pair is refused, and stores the pair.
+#[tactic(auto, using(crate::proofs::Telling::says_no_more, crate::proofs::Telling::says))]
 fn tell_refusal<H: Host<File = PlanFile>>(
     host: &mut H,
     notice: Notice,
     what: Offering,
 ) -> Result<(), H::Error>
-    ensures told { let line = notice_line notice in
-        let pair = pair_bytes what in
-        Worked H.does H.fails (λ es _. Says line pair es) (SaysInPart line pair)
-        host.old result host.new }
+    ensures told { Refuses H.does H.fails notice what host.old result host.new }
     ensures less { H.most host.new ≤ H.most host.old }
 {
     print_notice(host, notice)?;
