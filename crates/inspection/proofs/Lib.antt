@@ -1,6 +1,6 @@
 pub mod Coordinates
 pub mod Going
-pub mod Offering
+pub mod OfferSteps
 pub mod Working
 pub mod Inside
 pub mod Standing

@@ -12,7 +12,7 @@ use Rattle.inspection.specs.declared.requests.Request.TheVariants as request
 use Rattle.inspection.specs.declared.requests.Answer.{Answer}
 use Rattle.inspection.specs.declared.requests.Answer.TheVariants as answer
 use Rattle.inspection.specs.declared.kinds.ListKind.TheVariants.{Vf, Ee}
-use Rattle.inspection.specs.Offerings.{Offering, Faces}
+use Rattle.inspection.specs.Offerings.{Offering}
 use Rattle.inspection.specs.Sheets.{Sheet, sheet_in}
 use Rattle.inspection.specs.declared.names.VfName.{VfName}
 use Rattle.inspection.specs.declared.names.EeName.{EeName}
@@ -47,13 +47,13 @@ module _ (set : Shape → Bool) (ps : List Point) (fs : List Face) where
         → DepthStep k s.core r u.core → Ends h qs rs u t → Ends h (request.SetDepth k ∷ qs) (answer.DepthSet r ∷ rs) s t
     by-depth h k r qs rs s u t a e = subst (λ (m : ℕ). Runs (h ++ history m qs rs) t) (depth-after s u k r a) e
 
-    by-offer : (h : List Accepted) (f g : ℕ) (x : Result (Unit {0}) OfferFault) (qs : List Request) (rs : List Answer) (s u t : State)
-        → OfferStep set ps fs (Faces f g) s x u → Ends (history_after h (Faces f g) s.core.depth x) qs rs u t → Ends h (request.Offer f g ∷ qs) (answer.Offered x ∷ rs) s t
-    by-offer h f g (Ok v) qs rs s u t a e =
-        let o : Accepted = record { what = Faces f g; depth = s.core.depth } in
+    by-offer : (h : List Accepted) (w : Offering) (x : Result (Unit {0}) OfferFault) (qs : List Request) (rs : List Answer) (s u t : State)
+        → OfferStep set ps fs w s x u → Ends (history_after h w s.core.depth x) qs rs u t → Ends h (request.Offer w ∷ qs) (answer.Offered x ∷ rs) s t
+    by-offer h w (Ok v) qs rs s u t a e =
+        let o : Accepted = record { what = w; depth = s.core.depth } in
         subst (λ (k : List Accepted). Runs k t) (append_assoc h (o ∷ []) (history s.core.depth qs rs))
-        (subst (λ (m : ℕ). Runs ((h ++ (o ∷ [])) ++ history m qs rs) t) (offer-depth (Faces f g) s u (Ok v) a) e)
-    by-offer h f g (Err v) qs rs s u t a e = subst (λ (m : ℕ). Runs (h ++ history m qs rs) t) (offer-depth (Faces f g) s u (Err v) a) e
+        (subst (λ (m : ℕ). Runs ((h ++ (o ∷ [])) ++ history m qs rs) t) (offer-depth w s u (Ok v) a) e)
+    by-offer h w (Err v) qs rs s u t a e = subst (λ (m : ℕ). Runs (h ++ history m qs rs) t) (offer-depth w s u (Err v) a) e
 
     pub worked-runs : (h : List Accepted) (qs : List Request) (rs : List Answer) (s t : State) → Runs h s → Steps set ps fs qs rs s t → Ends h qs rs s t
     worked-runs h [] [] s t r w = here h s t r w
@@ -62,9 +62,9 @@ module _ (set : Shape → Bool) (ps : List Point) (fs : List Face) where
     worked-runs h (request.SetDepth k ∷ qs) (a ∷ rs) s t r (u, ((x, (e, b, v, f)), w)) =
         subst (λ (y : Answer). Ends h (request.SetDepth k ∷ qs) (y ∷ rs) s t) (sym e)
         (by-depth h k x qs rs s u t b (worked-runs h qs rs u t (depth_set k x u r b v f) w))
-    worked-runs h (request.Offer f g ∷ qs) (a ∷ rs) s t r (u, ((x, (e, b)), w)) =
-        subst (λ (y : Answer). Ends h (request.Offer f g ∷ qs) (y ∷ rs) s t) (sym e)
-        (by-offer h f g x qs rs s u t b (worked-runs (history_after h (Faces f g) s.core.depth x) qs rs u t (offered ps fs (Faces f g) x u r (λ b. refl) b) w))
+    worked-runs h (request.Offer o ∷ qs) (a ∷ rs) s t r (u, ((x, (e, b)), w)) =
+        subst (λ (y : Answer). Ends h (request.Offer o ∷ qs) (y ∷ rs) s t) (sym e)
+        (by-offer h o x qs rs s u t b (worked-runs (history_after h o s.core.depth x) qs rs u t (offered ps fs o x u r (λ b. refl) b) w))
     worked-runs h (request.Window Vf i ∷ qs) (a ∷ rs) s t r (u, ((x, (e, b, v)), w)) =
         subst₂ (λ (y : Answer) (z : State). Ends h (request.Window Vf i ∷ qs) (y ∷ rs) z t) (sym e) v (worked-runs h qs rs u t (asked u r v) w)
     worked-runs h (request.Window Ee i ∷ qs) (a ∷ rs) s t r (u, ((x, (e, b, v)), w)) =

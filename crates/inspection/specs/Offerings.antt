@@ -1,10 +1,8 @@
--- What is offered.
-use Rattle.std.specs.Prelude.{◌≡◌, ◌⊎◌, ℕ}
+-- What is offered, and when it is the same.
+use Rattle.std.specs.Prelude.{◌≡◌, ◌⊎◌}
+pub use Rattle.inspection.specs.declared.offerings.Offering.{Offering}
+pub use Rattle.inspection.specs.declared.offerings.Offering.TheVariants.{Faces}
 
--- two faces, by their numbers
-pub data Offering : Type 0 where
-  Faces : ℕ → ℕ → Offering
-
--- the same two, in either order
+-- the same two faces, in either order
 abbrev pub SameOffering : Offering → Offering → Type 0
 SameOffering (Faces f g) (Faces k l) = ((f ≡ k) × (g ≡ l)) ⊎ ((f ≡ l) × (g ≡ k))

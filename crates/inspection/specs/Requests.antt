@@ -12,7 +12,6 @@ use Rattle.inspection.specs.declared.requests.Request.TheVariants as request
 use Rattle.inspection.specs.declared.requests.Answer.{Answer}
 use Rattle.inspection.specs.declared.requests.Answer.TheVariants as answer
 use Rattle.inspection.specs.Tests.{vf_naming, ee_naming}
-use Rattle.inspection.specs.Offerings.{Faces}
 use Rattle.inspection.specs.States.{State}
 use Rattle.inspection.specs.Offers.{OfferStep}
 use Rattle.inspection.specs.Windows.{WindowAnswer}
@@ -24,9 +23,8 @@ module _ (set : Shape → Bool) (ps : List Point) (fs : List Face) where
   RequestStep (request.SetDepth k) a s t =
       (r : Result (Unit {0}) OpeningFault) × ((a ≡ answer.DepthSet r)
       × DepthStep k s.core r t.core × (t.vf ≡ s.vf) × (t.ee ≡ s.ee))
-  RequestStep (request.Offer f g) a s t =
-      (r : Result (Unit {0}) OfferFault) × ((a ≡ answer.Offered r)
-      × OfferStep set ps fs (Faces f g) s r t)
+  RequestStep (request.Offer o) a s t =
+      (r : Result (Unit {0}) OfferFault) × ((a ≡ answer.Offered r) × OfferStep set ps fs o s r t)
   RequestStep (request.Window Vf i) a s t =
       (r : Result (Option (ℕ × ℕ)) WindowFault) × ((a ≡ answer.Window r)
       × WindowAnswer vf_naming ps fs s.core s.vf i set r × (t ≡ s))
@@ -44,7 +42,7 @@ module _ (set : Shape → Bool) (ps : List Point) (fs : List Face) where
 abbrev pub history : ℕ → List Request → List Answer → List Accepted
 history d (request.SetDepth k ∷ qs) (answer.DepthSet r ∷ rs) =
     history (if is_ok r then k else d) qs rs
-history d (request.Offer f g ∷ qs) (answer.Offered (Ok u) ∷ rs) =
-    record { what = Faces f g; depth = d } ∷ history d qs rs
+history d (request.Offer o ∷ qs) (answer.Offered (Ok u) ∷ rs) =
+    record { what = o; depth = d } ∷ history d qs rs
 history d (q ∷ qs) (a ∷ rs) = history d qs rs
 history d qs rs = []

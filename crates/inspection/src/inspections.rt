@@ -7,7 +7,6 @@ ghost use Rattle.inspection.specs.Tallies.{total, tally_in};
 ghost use Rattle.inspection.specs.Sheets.{sheet_in, sheet_of_rows};
 ghost use Rattle.inspection.specs.Lists.{contents_of, entries, without_entries};
 ghost use Rattle.inspection.specs.Tests.{vf_naming, ee_naming};
-ghost use Rattle.inspection.specs.Offerings.{Faces};
 ghost use Rattle.inspection.specs.declared.kinds.ListKind.TheVariants.{Vf, Ee};
 ghost use Rattle.inspection.specs.declared.faults.OfferFault.TheVariants.{ListFull};
 
@@ -17,6 +16,7 @@ use crate::faults::{OfferFault, OpeningFault, WindowFault};
 use crate::kinds::ListKind;
 use crate::lists::List;
 use crate::names::{EeName, VfName};
+use crate::offerings::Offering;
 use crate::offers::check_offer;
 use crate::pairs::{ee_tests, vf_tests};
 use crate::sheets::Rows;
@@ -125,24 +125,22 @@ impl<F: Filter> Inspection<F> {
         Ok(())
     }
 
-    /// Offers two faces, by their numbers from 0: each of their fifteen tests is classed and
-    /// counted, and the kept ones are listed. A fault leaves all as it was. `points` and `faces`
-    /// are the sheet's tables, and may have more rows than it.
+    /// Offers two faces: each of their fifteen tests is classed and counted, and the kept ones are
+    /// listed. A fault leaves all as it was. `points` and `faces` are the sheet's tables, and may
+    /// have more rows than it.
     pub fn offer(
         &mut self,
         points: &[Point],
         faces: &[Face],
         vf: &mut List<'_, VfName>,
         ee: &mut List<'_, EeName>,
-        first: u16,
-        second: u16,
+        what: Offering,
     ) -> Result<(), OfferFault>
         ensures step { OfferStep (F.Filter.struck self.old.filter) points.now faces.now
-            (Faces first second) (state_of self.old vf.old ee.old) result
-            (state_of self.new vf.new ee.new) }
+            what (state_of self.old vf.old ee.old) result (state_of self.new vf.new ee.new) }
         ensures filter { self.new.filter ≡ self.old.filter }
     {
-        let new = self.class_pair(points, faces, vf, ee, first, second)?;
+        let new = self.class_pair(points, faces, vf, ee, what)?;
         self.accept(&new, vf, ee)
     }
 
@@ -153,30 +151,29 @@ impl<F: Filter> Inspection<F> {
         faces: &[Face],
         vf: &List<'_, VfName>,
         ee: &List<'_, EeName>,
-        first: u16,
-        second: u16,
+        what: Offering,
     ) -> Result<PairOutcome, OfferFault>
         ensures fault { fault_notice notice_of_offer result
-            ≡ first_fit (checks_but_room self.now.draft points.now faces.now (Faces first second)
+            ≡ first_fit (checks_but_room self.now.draft points.now faces.now what
             self.now.accepted) }
         ensures few { OnOk result (self.now.accepted < 1000000) }
         ensures vf { IfOk result (λ c.
             Outcome vf_naming (F.Filter.struck self.now.filter) self.now.depth
-            (sheet_in self.now.draft points.now faces.now) (Faces first second)
+            (sheet_in self.now.draft points.now faces.now) what
             (entries vf.now) c.vf.items c.vf_tally) }
         ensures ee { IfOk result (λ c.
             Outcome ee_naming (F.Filter.struck self.now.filter) self.now.depth
-            (sheet_in self.now.draft points.now faces.now) (Faces first second)
+            (sheet_in self.now.draft points.now faces.now) what
             (entries ee.now) c.ee.items c.ee_tally) }
     {
-        let rows = check_offer(&self.draft, points, faces, first, second, self.accepted)?;
+        let rows = check_offer(&self.draft, points, faces, what, self.accepted)?;
         let judge = Judge {
             rows,
             filter: &self.filter,
             depth: self.depth,
         };
-        let (vf, vf_tally) = judge.class_all(&vf_tests(rows, first, second), vf);
-        let (ee, ee_tally) = judge.class_all(&ee_tests(rows, first, second), ee);
+        let (vf, vf_tally) = judge.class_all(&vf_tests(rows, what), vf);
+        let (ee, ee_tally) = judge.class_all(&ee_tests(rows, what), ee);
         Ok(PairOutcome {
             vf,
             vf_tally,

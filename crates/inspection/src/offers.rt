@@ -2,11 +2,11 @@
 ghost use Rattle.std.specs.Prelude.{◌≡◌, ◌<◌, IfOk, OnOk};
 ghost use Rattle.sheet.specs.Checks.{first_fit, fault_notice};
 ghost use Rattle.inspection.specs.Faults.{notice_of_offer};
-ghost use Rattle.inspection.specs.Offerings.{Faces};
 ghost use Rattle.inspection.specs.Sheets.{sheet_of_rows, sheet_in};
 ghost use Rattle.inspection.specs.Offers.{checks_but_room};
 
 use crate::faults::OfferFault;
+use crate::offerings::Offering;
 use crate::sheets::Rows;
 use crate::tests::has_corners_below;
 use sheet::{Draft, Face, Point};
@@ -20,19 +20,18 @@ pub(crate) fn check_offer<'a>(
     draft: &Draft,
     points: &'a [Point],
     faces: &'a [Face],
-    first: u16,
-    second: u16,
+    what: Offering,
     accepted: u32,
 ) -> Result<Rows<'a>, OfferFault>
-    ensures fault { let pair = Faces first second in
-        fault_notice notice_of_offer result
-        ≡ first_fit (checks_but_room draft.now points.now faces.now pair accepted) }
+    ensures fault { fault_notice notice_of_offer result
+        ≡ first_fit (checks_but_room draft.now points.now faces.now what accepted) }
     ensures rows { IfOk result (λ r. sheet_of_rows r ≡ sheet_in draft.now points.now faces.now) }
     ensures few { OnOk result (accepted < 1000000) }
 {
     let Some(rows) = Rows::of(draft, points, faces) else {
         return Err(OfferFault::TableTooShort);
     };
+    let Offering::Faces(first, second) = what;
     if first >= draft.faces() {
         return Err(OfferFault::NoSuchFace(first));
     }

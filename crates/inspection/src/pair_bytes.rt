@@ -2,7 +2,7 @@
 ghost use Rattle.std.specs.Prelude.{◌≡◌, IfOk};
 ghost use Rattle.inspection.specs.PairBytes.{offers_in, offers_left};
 
-use crate::requests::Request;
+use crate::offerings::Offering;
 use std::alloc::{AllocError, Global};
 
 /// The offers that are left of some bytes.
@@ -14,20 +14,20 @@ pub struct PairOffers<'a> {
 impl<'a> Iterator for PairOffers<'a> {
     ghost use Rattle.std.specs.Iterator.{YieldsFirst, item_count};
 
-    type Item = Request;
+    type Item = Offering;
 
     ghost next_gives = { YieldsFirst offers_left };
 
     ghost remaining = { item_count offers_left };
 
-    fn next(&mut self) -> Option<Request> {
+    fn next(&mut self) -> Option<Offering> {
         let [a, b, c, d, rest @ ..] = self.bytes else {
             return None;
         };
         let first = u16::from_le_bytes([*a, *b]);
         let second = u16::from_le_bytes([*c, *d]);
         self.bytes = rest;
-        Some(Request::Offer(first, second))
+        Some(Offering::Faces(first, second))
     }
 }
 
@@ -40,7 +40,7 @@ pub fn pair_offers(bytes: &[u8]) -> PairOffers<'_>
 }
 
 /// The same, all at once.
-pub fn offers_in(alloc: Global, bytes: &[u8]) -> Result<Vec<Request>, AllocError>
+pub fn offers_in(alloc: Global, bytes: &[u8]) -> Result<Vec<Offering>, AllocError>
     ensures { IfOk result (λ v. v.items ≡ offers_in bytes.now) }
 {
     pair_offers(bytes).collect(alloc)

@@ -1,18 +1,19 @@
 // The fifteen tests of two faces.
 ghost use Rattle.std.specs.Prelude.{◌≡◌};
 ghost use Rattle.inspection.specs.Pairs.{corners_against, edges};
-ghost use Rattle.inspection.specs.Offerings.{Faces};
 ghost use Rattle.inspection.specs.Sheets.{sheet_of_rows};
 ghost use Rattle.inspection.specs.Tests.{vf_naming, ee_naming};
 
 use crate::names::{Edge, EeName, VfName};
+use crate::offerings::Offering;
 use crate::sheets::Rows;
 use sheet::Face;
 
-/// The corners of each of two faces against the other; `m` and `n` are the numbers of the faces.
-pub(crate) fn vf_tests(rows: Rows<'_>, m: u16, n: u16) -> [VfName; 6]
-    ensures { result ≡ vf_naming.tests (sheet_of_rows rows.entry) (Faces m n) }
+/// The corners of each of two faces against the other.
+pub(crate) fn vf_tests(rows: Rows<'_>, what: Offering) -> [VfName; 6]
+    ensures { result ≡ vf_naming.tests (sheet_of_rows rows.entry) what }
 {
+    let Offering::Faces(m, n) = what;
     let [a, b, c] = corners_against(rows.face(m), n);
     let [p, q, r] = corners_against(rows.face(n), m);
     [a, b, c, p, q, r]
@@ -26,9 +27,10 @@ fn corners_against(f: Face, face: u16) -> [VfName; 3]
 }
 
 /// The edges of the first of two faces against those of the second.
-pub(crate) fn ee_tests(rows: Rows<'_>, m: u16, n: u16) -> [EeName; 9]
-    ensures { result ≡ ee_naming.tests (sheet_of_rows rows.entry) (Faces m n) }
+pub(crate) fn ee_tests(rows: Rows<'_>, what: Offering) -> [EeName; 9]
+    ensures { result ≡ ee_naming.tests (sheet_of_rows rows.entry) what }
 {
+    let Offering::Faces(m, n) = what;
     let [a, b, c] = edges(rows.face(m));
     let [p, q, r] = edges(rows.face(n));
     [

@@ -1,14 +1,15 @@
 // What can be asked of an inspection, and its answers.
 use crate::faults::{OfferFault, OpeningFault, WindowFault};
 use crate::kinds::ListKind;
+use crate::offerings::Offering;
 
 /// One call of an inspection.
 #[derive(Clone, Copy, Debug, PartialEq, Eq)]
 pub enum Request {
     /// The depth is to be this.
     SetDepth(u8),
-    /// Two faces are offered.
-    Offer(u16, u16),
+    /// This is offered.
+    Offer(Offering),
     /// The window of an entry of one list.
     Window(ListKind, u32),
 }

@@ -1,8 +1,8 @@
 // What offers list and count.
 use crate::nothing::Nothing;
-use crate::plans::{crossing, hinged, open, tally};
+use crate::plans::{BOTH, crossing, hinged, open, tally};
 use filters::DELIVERED;
-use inspection::{EeName, List, VfName};
+use inspection::{EeName, List, Offering, VfName};
 use sheet::Face;
 use std::test::Fail;
 
@@ -13,13 +13,19 @@ fn once_again_and_swapped(rt: HostRuntime) -> Result<(), Fail> {
     let mut vf = List::new(&mut vf_places);
     let mut ee = List::new(&mut ee_places);
     let mut inspection = open(plan.draft, DELIVERED, 2, &mut vf, &mut ee)?;
-    let once = inspection.offer(&plan.points, &plan.faces, &mut vf, &mut ee, 0, 1);
+    let once = inspection.offer(&plan.points, &plan.faces, &mut vf, &mut ee, BOTH);
     assert_eq!(rt; once, Ok(()));
     assert_eq!(rt; vf.get(0), Some(VfName { point: 3, face: 0 }));
     assert_eq!(rt; inspection.findings(&vf, &ee).vf, tally(1, 5, 0, 0));
-    let again = inspection.offer(&plan.points, &plan.faces, &mut vf, &mut ee, 0, 1);
+    let again = inspection.offer(&plan.points, &plan.faces, &mut vf, &mut ee, BOTH);
     assert_eq!(rt; again, Ok(()));
-    let swapped = inspection.offer(&plan.points, &plan.faces, &mut vf, &mut ee, 1, 0);
+    let swapped = inspection.offer(
+        &plan.points,
+        &plan.faces,
+        &mut vf,
+        &mut ee,
+        Offering::Faces(1, 0),
+    );
     assert_eq!(rt; swapped, Ok(()));
     assert_eq!(rt; (vf.len(), ee.len()), (1, 0));
     let counts = inspection.close().counts();
@@ -35,7 +41,7 @@ fn another_filter(rt: HostRuntime) -> Result<(), Fail> {
     let mut vf = List::new(&mut vf_places);
     let mut ee = List::new(&mut ee_places);
     let mut inspection = open(plan.draft, Nothing, 2, &mut vf, &mut ee)?;
-    let _ = inspection.offer(&plan.points, &plan.faces, &mut vf, &mut ee, 0, 1);
+    let _ = inspection.offer(&plan.points, &plan.faces, &mut vf, &mut ee, BOTH);
     assert_eq!(rt; (vf.len(), ee.len()), (6, 9));
     assert_eq!(rt; vf.get(0), Some(VfName { point: 0, face: 1 }));
     assert_eq!(rt; vf.get(3), Some(VfName { point: 3, face: 0 }));
@@ -54,8 +60,14 @@ fn a_common_edge(rt: HostRuntime) -> Result<(), Fail> {
     let mut vf = List::new(&mut vf_places);
     let mut ee = List::new(&mut ee_places);
     let mut inspection = open(plan.draft, Nothing, 0, &mut vf, &mut ee)?;
-    let _ = inspection.offer(&plan.points, &plan.faces, &mut vf, &mut ee, 0, 1);
-    let _ = inspection.offer(&plan.points, &plan.faces, &mut vf, &mut ee, 1, 0);
+    let _ = inspection.offer(&plan.points, &plan.faces, &mut vf, &mut ee, BOTH);
+    let _ = inspection.offer(
+        &plan.points,
+        &plan.faces,
+        &mut vf,
+        &mut ee,
+        Offering::Faces(1, 0),
+    );
     let counts = inspection.findings(&vf, &ee);
     assert_eq!(rt; counts.vf, tally(2, 0, 8, 2));
     assert_eq!(rt; counts.ee, tally(2, 0, 14, 2));
@@ -70,7 +82,7 @@ fn a_point_twice(rt: HostRuntime) -> Result<(), Fail> {
     let mut vf = List::new(&mut vf_places);
     let mut ee = List::new(&mut ee_places);
     let mut inspection = open(plan.draft, Nothing, 0, &mut vf, &mut ee)?;
-    let offer = inspection.offer(&plan.points, &plan.faces, &mut vf, &mut ee, 0, 1);
+    let offer = inspection.offer(&plan.points, &plan.faces, &mut vf, &mut ee, BOTH);
     assert_eq!(rt; offer, Ok(()));
     let counts = inspection.findings(&vf, &ee);
     assert_eq!(rt; counts.vf, tally(5, 0, 0, 1));

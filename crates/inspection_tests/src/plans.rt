@@ -1,8 +1,11 @@
 // Small plans: a draft with its tables.
 use filters::Filter;
-use inspection::{EeName, Inspection, List, Tally, VfName};
+use inspection::{EeName, Inspection, List, Offering, Tally, VfName};
 use sheet::{Coords, Draft, Face, Point, read_sheet};
 use std::test::Fail;
+
+/// Both faces of a plan.
+pub(crate) const BOTH: Offering = Offering::Faces(0, 1);
 
 #[derive(Drop)]
 pub(crate) struct Plan {

@@ -1,7 +1,7 @@
 // What is refused changes nothing.
 use crate::nothing::Nothing;
-use crate::plans::{Plan, crossing, open, tally};
-use inspection::{Counts, EeName, Inspection, List, OfferFault, OpeningFault, VfName};
+use crate::plans::{BOTH, Plan, crossing, open, tally};
+use inspection::{Counts, EeName, Inspection, List, OfferFault, Offering, OpeningFault, VfName};
 use sheet::{Face, Point};
 use std::process::Abort;
 use std::test::Fail;
@@ -19,9 +19,15 @@ fn refuses(
     let mut vf = List::new(&mut vf_places);
     let mut ee = List::new(&mut ee_places);
     let mut inspection = open(plan.draft, Nothing, 2, &mut vf, &mut ee)?;
-    let _ = inspection.offer(&plan.points, &plan.faces, &mut vf, &mut ee, 0, 1);
+    let _ = inspection.offer(&plan.points, &plan.faces, &mut vf, &mut ee, BOTH);
     let before = inspection.findings(&vf, &ee);
-    let answer = inspection.offer(points, faces, &mut vf, &mut ee, pair.0, pair.1);
+    let answer = inspection.offer(
+        points,
+        faces,
+        &mut vf,
+        &mut ee,
+        Offering::Faces(pair.0, pair.1),
+    );
     assert_eq!(rt; answer, Err(fault));
     assert_eq!(rt; inspection.findings(&vf, &ee), before);
     assert_eq!(rt; (vf.len(), ee.len()), (6, 9));
@@ -67,10 +73,10 @@ fn a_million_and_one(rt: HostRuntime) -> Result<(), Fail> {
     let mut ee = List::new(&mut ee_places);
     let mut inspection = open(plan.draft, Nothing, 0, &mut vf, &mut ee)?;
     for _ in 0..1_000_000 {
-        let answer = inspection.offer(&plan.points, &plan.faces, &mut vf, &mut ee, 0, 1);
+        let answer = inspection.offer(&plan.points, &plan.faces, &mut vf, &mut ee, BOTH);
         assert_eq!(rt; answer, Ok(()));
     }
-    let answer = inspection.offer(&plan.points, &plan.faces, &mut vf, &mut ee, 0, 1);
+    let answer = inspection.offer(&plan.points, &plan.faces, &mut vf, &mut ee, BOTH);
     assert_eq!(rt; answer, Err(OfferFault::TooManyOffers));
     let counts = inspection.findings(&vf, &ee);
     assert_eq!(rt;
@@ -99,7 +105,7 @@ fn depths(rt: HostRuntime) -> Result<(), Fail> {
     let mut inspection = open(draft, Nothing, 6, &mut vf, &mut ee)?;
     assert_eq!(rt; inspection.set_depth(7), Err(OpeningFault::TooDeep(7)));
     assert_eq!(rt; inspection.set_depth(6), Ok(()));
-    let _ = inspection.offer(&plan.points, &plan.faces, &mut vf, &mut ee, 0, 1);
+    let _ = inspection.offer(&plan.points, &plan.faces, &mut vf, &mut ee, BOTH);
     let closed = inspection.close();
     assert_eq!(rt; closed.counts().vf, tally(6, 0, 0, 0));
     let (draft, _filter) = closed.into_draft();

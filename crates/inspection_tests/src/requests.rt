@@ -2,19 +2,19 @@
 use crate::plans::{crossing, tally};
 use filters::DELIVERED;
 use inspection::{
-    Answer, EeName, List, ListKind, OfferFault, OpeningFault, Request, VfName, inspect, offers_in,
-    pair_offers,
+    Answer, EeName, List, ListKind, OfferFault, Offering, OpeningFault, Request, VfName, inspect,
+    offers_in, pair_offers,
 };
 use std::test::Fail;
 
 const REQUESTS: [Request; 7] = [
-    Request::Offer(0, 1),
-    Request::Offer(1, 1),
+    Request::Offer(Offering::Faces(0, 1)),
+    Request::Offer(Offering::Faces(1, 1)),
     Request::Window(ListKind::Vf, 0),
     Request::SetDepth(7),
     Request::SetDepth(6),
     Request::Window(ListKind::Vf, 0),
-    Request::Offer(1, 0),
+    Request::Offer(Offering::Faces(1, 0)),
 ];
 
 const UNANSWERED: Answer = Answer::Window(Ok(None));
@@ -55,14 +55,14 @@ fn in_any_mix(rt: HostRuntime) -> Result<(), Fail> {
 fn of_bytes(rt: HostRuntime) -> Result<(), Fail> {
     let bytes = [0, 0, 1, 0, 255, 15, 2, 1, 9, 9, 9];
     let mut pairs = pair_offers(&bytes);
-    assert_eq!(rt; pairs.next(), Some(Request::Offer(0, 1)));
-    assert_eq!(rt; pairs.next(), Some(Request::Offer(4095, 258)));
+    assert_eq!(rt; pairs.next(), Some(Offering::Faces(0, 1)));
+    assert_eq!(rt; pairs.next(), Some(Offering::Faces(4095, 258)));
     assert_eq!(rt; pairs.next(), None);
     let offers = offers_in(rt.alloc(), &bytes)?;
     assert_eq!(rt; offers.len(), 2);
     assert_eq!(rt;
         offers.as_slice(),
-        [Request::Offer(0, 1), Request::Offer(4095, 258)].as_slice()
+        [Offering::Faces(0, 1), Offering::Faces(4095, 258)].as_slice()
     );
     Ok(())
 }

@@ -1,6 +1,6 @@
 // Lists with just enough places, and with one too few.
 use crate::nothing::Nothing;
-use crate::plans::{crossing, open, tally};
+use crate::plans::{BOTH, crossing, open, tally};
 use inspection::{EeName, List, OfferFault, VfName};
 use std::process::Abort;
 use std::test::Fail;
@@ -16,7 +16,7 @@ fn offer_to(
     let mut vf = List::new(vf_places);
     let mut ee = List::new(ee_places);
     let mut inspection = open(plan.draft, Nothing, 6, &mut vf, &mut ee)?;
-    let answer = inspection.offer(&plan.points, &plan.faces, &mut vf, &mut ee, 0, 1);
+    let answer = inspection.offer(&plan.points, &plan.faces, &mut vf, &mut ee, BOTH);
     if answer.is_err() {
         let counts = inspection.findings(&vf, &ee);
         assert_eq!(rt;

@@ -1,5 +1,5 @@
 // Windows at several depths, and their refusals.
-use crate::plans::{crossing, open, turning};
+use crate::plans::{BOTH, crossing, open, turning};
 use filters::DELIVERED;
 use inspection::{EeName, List, VfName, WindowFault};
 use sheet::Face;
@@ -12,7 +12,7 @@ fn at_depths(rt: HostRuntime) -> Result<(), Fail> {
     let mut vf = List::new(&mut vf_places);
     let mut ee = List::new(&mut ee_places);
     let mut inspection = open(plan.draft, DELIVERED, 2, &mut vf, &mut ee)?;
-    let _ = inspection.offer(&plan.points, &plan.faces, &mut vf, &mut ee, 0, 1);
+    let _ = inspection.offer(&plan.points, &plan.faces, &mut vf, &mut ee, BOTH);
     assert_eq!(rt;
         inspection.window(&plan.points, &plan.faces, &vf, 0),
         Ok(Some((1, 2)))
@@ -37,7 +37,7 @@ fn absent_where_deeper_strikes(rt: HostRuntime) -> Result<(), Fail> {
     let mut vf = List::new(&mut vf_places);
     let mut ee = List::new(&mut ee_places);
     let mut inspection = open(plan.draft, DELIVERED, 0, &mut vf, &mut ee)?;
-    let _ = inspection.offer(&plan.points, &plan.faces, &mut vf, &mut ee, 0, 1);
+    let _ = inspection.offer(&plan.points, &plan.faces, &mut vf, &mut ee, BOTH);
     let mut entry = 6;
     for i in 0..6u32 {
         if vf.get(i as usize) == Some(VfName { point: 3, face: 0 }) {
@@ -63,7 +63,7 @@ fn refused(rt: HostRuntime) -> Result<(), Fail> {
     let mut vf = List::new(&mut vf_places);
     let mut ee = List::new(&mut ee_places);
     let mut inspection = open(plan.draft, DELIVERED, 2, &mut vf, &mut ee)?;
-    let _ = inspection.offer(&plan.points, &plan.faces, &mut vf, &mut ee, 0, 1);
+    let _ = inspection.offer(&plan.points, &plan.faces, &mut vf, &mut ee, BOTH);
     assert_eq!(rt;
         inspection.window(&plan.points[..5], &plan.faces, &vf, 0),
         Err(WindowFault::TableTooShort)

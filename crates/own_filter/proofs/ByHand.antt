@@ -8,7 +8,8 @@ use Rattle.sheet.specs.declared.rows.Point.{Point}
 use Rattle.sheet.specs.declared.rows.Face.{Face}
 use Rattle.motion.specs.declared.shapes.Shape.{Shape}
 use Rattle.inspection.specs.declared.faults.OfferFault.{OfferFault}
-use Rattle.inspection.specs.Offerings.{Offering, Faces}
+use Rattle.inspection.specs.declared.offerings.Offering.{Offering}
+use Rattle.inspection.specs.declared.offerings.Offering.TheVariants.{Faces}
 use Rattle.inspection.specs.Sheets.{sheet_in}
 use Rattle.inspection.specs.States.{State}
 use Rattle.inspection.specs.Offers.{offer_checks, state_after, OfferStep}

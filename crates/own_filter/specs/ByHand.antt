@@ -9,7 +9,8 @@ use Rattle.motion.specs.declared.shapes.Shape.{Shape}
 use Rattle.inspection.specs.declared.classes.Counts.{Counts}
 use Rattle.inspection.specs.declared.kinds.ListKind.TheVariants.{Vf, Ee}
 use Rattle.inspection.specs.Tallies.{tally_in}
-use Rattle.inspection.specs.Offerings.{Offering, Faces}
+use Rattle.inspection.specs.declared.offerings.Offering.{Offering}
+use Rattle.inspection.specs.declared.offerings.Offering.TheVariants.{Faces}
 use Rattle.inspection.specs.Sheets.{sheet_in}
 use Rattle.inspection.specs.States.{State, with_depth}
 use Rattle.inspection.specs.Offers.{offer_checks, state_after}

@@ -1,6 +1,6 @@
 // An inspection with a filter of one's own, call by call.
 ghost use Rattle.std.specs.Prelude.{◌≡◌, ◌↔◌, IsNone, IsSome, IfNone, IfSome};
-ghost use Rattle.inspection.specs.Offerings.{Faces};
+ghost use Rattle.inspection.specs.declared.offerings.Offering.TheVariants.{Faces};
 ghost use Rattle.inspection.specs.Sheets.{sheet_in};
 ghost use Rattle.inspection.specs.Lists.{contents_of, without_entries};
 ghost use Rattle.inspection.specs.States.{state_of, state_at_start};
@@ -9,7 +9,7 @@ ghost use Rattle.inspection.specs.Claims.{Claim};
 ghost use Rattle.own_filter.specs.ByHand.{fault_of_offer, after_both, accepted_of_both, counts_in};
 
 use filters::Filter;
-use inspection::{Counts, EeName, Inspection, List, OfferFault, VfName};
+use inspection::{Counts, EeName, Inspection, List, OfferFault, Offering, VfName};
 use report::report;
 use sheet::{Draft, Face, Point};
 
@@ -100,7 +100,7 @@ fn accepted<F: Filter + Drop>(
         (state_of i vf.new ee.new)) }
     ensures filter { IfSome result (λ i. i.filter ≡ inspection.filter) }
 {
-    let Ok(()) = inspection.offer(points, faces, vf, ee, first, second) else {
+    let Ok(()) = inspection.offer(points, faces, vf, ee, Offering::Faces(first, second)) else {
         return None;
     };
     Some(inspection)
@@ -121,9 +121,9 @@ fn offer_in_vain<F: Filter>(
         ≡ state_of inspection.old vf.old ee.old }
     ensures filter { inspection.new.filter ≡ inspection.old.filter }
 {
-    let _ = inspection.offer(points, faces, vf, ee, first, first);
+    let _ = inspection.offer(points, faces, vf, ee, Offering::Faces(first, first));
     let short = &faces[..faces.len().min(first as usize)];
-    let _ = inspection.offer(points, short, vf, ee, first, second);
+    let _ = inspection.offer(points, short, vf, ee, Offering::Faces(first, second));
 }
 
 /// Offers two faces the other way round.
@@ -141,5 +141,5 @@ fn offer_turned<F: Filter>(
         (state_of inspection.new vf.new ee.new) }
     ensures filter { inspection.new.filter ≡ inspection.old.filter }
 {
-    inspection.offer(points, faces, vf, ee, second, first)
+    inspection.offer(points, faces, vf, ee, Offering::Faces(second, first))
 }

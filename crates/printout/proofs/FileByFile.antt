@@ -34,16 +34,17 @@ All-front P [] ys all = All-nil P
 All-front P (x ∷ xs) ys all = All-cons P x xs (All-head P x (xs ++ ys) all) (All-front P xs ys (All-tail P x (xs ++ ys) all))
 
 module _ {S E : Type 0} (does : S → Event PlanFile → S → Type 0) (fails : S → Call PlanFile → E → S → Type 0) where
-  pub sheet_unread : (s t : S) (e : E) → fails s (Reading Sheet) e t → Inspects does fails s (Err e) t
-  sheet_unread s t e f =
-      record {
+  pub sheet_unread : (s t : S) (e : E) (r : Result Ending E) → fails s (Reading Sheet) e t → r ≡ Err e → Inspects does fails s r t
+  sheet_unread s t e r f is =
+      subst (λ r. Inspects does fails s r t) (sym is)
+      (record {
         events = [];
         call = Reading Sheet;
         before = s;
         went = nothing;
         failed = f;
         part = λ p reads. stops_unread p (needed p) Sheet (files_after (sheet_fault p) (after_sheet p 0)) refl;
-      }
+      })
 
   module _ (s m t : S) (size : ℕ) (text : List ℕ) (did : does s (Read Sheet size text) m) (limit : size ≡ text_limit + 1) where
     module _ (n : Notice) (fits : Some n ≡ first_fit (sheet_checks text point_limit face_limit)) where
@@ -73,9 +74,9 @@ module _ {S E : Type 0} (does : S → Event PlanFile → S → Type 0) (fails : 
                 stops_faulty p (needed p) n (ap (λ o. or_else o (step_fault p)) has) Sheet size text (ap (λ o. Sheet ∷ files_after o (after_sheet p 0)) has) print.events print.call print.part;
           }
 
-    pub sheet_accepted : (d : Draft) (ps : List Point) (fs : List Face) → None ≡ first_fit (sheet_checks text point_limit face_limit) → d ≡ draft_of text
+    read : (d : Draft) (ps : List Point) (fs : List Face) → None ≡ first_fit (sheet_checks text point_limit face_limit) → d ≡ draft_of text
         → (r : Result Ending E) → StepRan does fails d (onto_front (points_in (numbered text)) ps) (onto_front (faces_in (numbered text)) fs) m r t → Inspects does fails s r t
-    sheet_accepted d ps fs none draft (Ok end) ran =
+    read d ps fs none draft (Ok end) ran =
         record {
           events = Read Sheet size text ∷ ran.events;
           went = went_first does (Read Sheet size text) did ran.went;
@@ -85,7 +86,7 @@ module _ {S E : Type 0} (does : S → Event PlanFile → S → Type 0) (fails : 
               ends_after p (after_sheet p) Sheet size text (needed p) (λ n. ap (λ o. Sheet ∷ files_after o (after_sheet p n)) holds.no_fault) refl ran.events end
               (ran.good.1 p holds (reads Step) (reads Pairs));
         }
-    sheet_accepted d ps fs none draft (Err e) ran =
+    read d ps fs none draft (Err e) ran =
         record {
           events = Read Sheet size text ∷ ran.events;
           call = ran.call;
@@ -99,10 +100,16 @@ module _ {S E : Type 0} (does : S → Event PlanFile → S → Type 0) (fails : 
               (ran.part.1 p holds (reads Step) (reads Pairs));
         }
 
+    pub sheet_accepted : (d : Draft) (ps qs : List Point) (fs gs : List Face) → None ≡ first_fit (sheet_checks text point_limit face_limit) → d ≡ draft_of text
+        → (r : Result Ending E) → qs ≡ onto_front (points_in (numbered text)) ps → gs ≡ onto_front (faces_in (numbered text)) fs → StepRan does fails d qs gs m r t → Inspects does fails s r t
+    sheet_accepted d ps qs fs gs none draft r points faces ran =
+        read d ps fs none draft r (subst (λ l. StepRan does fails d l (onto_front (faces_in (numbered text)) fs) m r t) points (subst (λ l. StepRan does fails d qs l m r t) faces ran))
+
   module _ (d : Draft) (ps : List Point) (fs : List Face) where
-    pub step_unread : (s t : S) (e : E) → fails s (Reading Step) e t → StepRan does fails d ps fs s (Err e) t
-    step_unread s t e f =
-        record {
+    pub step_unread : (s t : S) (e : E) (r : Result Ending E) → fails s (Reading Step) e t → r ≡ Err e → StepRan does fails d ps fs s r t
+    step_unread s t e r f is =
+        subst (λ r. StepRan does fails d ps fs s r t) (sym is)
+        (record {
           events = [];
           call = Reading Step;
           before = s;
@@ -112,7 +119,7 @@ module _ {S E : Type 0} (does : S → Event PlanFile → S → Type 0) (fails : 
             All-cons (λ g. same_file Sheet g ≡ false) Step [] refl (All-nil (λ g. same_file Sheet g ≡ false)),
             λ p holds step pairs. stops_unread p (after_sheet p) Step (files_after (step_fault p) []) refl,
           );
-        }
+        })
 
     module _ (s m t : S) (size : ℕ) (bytes : List ℕ) (did : does s (Read Step size bytes) m) (limit : size ≡ record_limit + 1) (room : d.points ≤ length ps) (few : d.points ≤ point_limit) where
       first : (p : Plan) (es : List (Event PlanFile)) → All (λ g. same_file Step g ≡ false) (files_read es) → FitsFile Step p.step (Read Step size bytes ∷ es) → bytes ≡ take size p.step
@@ -156,9 +163,9 @@ module _ {S E : Type 0} (does : S → Event PlanFile → S → Type 0) (fails : 
       later : (p : Plan) → fault p ≡ None → HoldsSheet p d ps fs → step_fault p ≡ None
       later p none h = sym (λ i. or_else (h.no_fault i) (step_fault p)) ∙ none
 
-      pub step_accepted : None ≡ first_fit (lay_checks d.points ps bytes) → (r : Result Ending E)
+      laid : None ≡ first_fit (lay_checks d.points ps bytes) → (r : Result Ending E)
           → PairsRan does fails d (onto_front (with_ends (take d.points ps) bytes) ps) fs m r t → StepRan does fails d ps fs s r t
-      step_accepted none (Ok end) ran =
+      laid none (Ok end) ran =
           let files = ran.good.0 in
           let only = λ (f : PlanFile) (other : same_file f Pairs ≡ false). subst (All (λ g. same_file f g ≡ false)) (sym files.each) (All-replicate (λ g. same_file f g ≡ false) files.pieces Pairs other) in
           record {
@@ -172,7 +179,7 @@ module _ {S E : Type 0} (does : S → Event PlanFile → S → Type 0) (fails : 
                   (ran.good.1 p holds pairs),
             );
           }
-      step_accepted none (Err e) ran =
+      laid none (Err e) ran =
           let files = ran.part.0 in
           let only = λ (f : PlanFile) (other : same_file f Pairs ≡ false). subst (All (λ g. same_file f g ≡ false)) (sym files.each) (All-replicate (λ g. same_file f g ≡ false) files.pieces Pairs other) in
           record {
@@ -189,3 +196,7 @@ module _ {S E : Type 0} (does : S → Event PlanFile → S → Type 0) (fails : 
                   (ran.part.1 p holds pairs),
             );
           }
+
+      pub step_accepted : None ≡ first_fit (lay_checks d.points ps bytes) → (qs : List Point) (r : Result Ending E) → qs ≡ onto_front (with_ends (take d.points ps) bytes) ps
+          → PairsRan does fails d qs fs m r t → StepRan does fails d ps fs s r t
+      step_accepted none qs r rows ran = laid none r (subst (λ l. PairsRan does fails d l fs m r t) rows ran)

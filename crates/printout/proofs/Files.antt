@@ -14,24 +14,24 @@ use Rattle.sheet.specs.declared.drafts.Draft.{Draft}
 use Rattle.sheet.specs.declared.rows.Point.{Point}
 use Rattle.sheet.specs.declared.rows.Face.{Face}
 use Rattle.motion.specs.declared.shapes.Shape.{Shape}
-use Rattle.inspection.specs.Offerings.{Faces}
-use Rattle.inspection.specs.PairBytes.{number_of}
+use Rattle.inspection.specs.declared.offerings.Offering.TheVariants.{Faces}
+use Rattle.inspection.specs.PairBytes.{number_of, offers_in}
 use Rattle.inspection.specs.Sheets.{Sheet}
 use Rattle.inspection.specs.States.{State}
 use Rattle.printout.specs.Outcomes.{same_file}
 use Rattle.printout.specs.Progress.{Made, Offers, pairs_came, ReadsPairs, CameWhole, TellsFile, TellsFileInPart, OffersFile}
-use Rattle.printout.specs.Walks.{Walk, pairs_in, offered, walked, refusal_lines, refused_pairs}
+use Rattle.printout.specs.Walks.{Walk, offered, walked, refusal_lines, refused_pairs}
 use Rattle.printout.specs.declared.plan_files.PlanFile.{PlanFile}
 use Rattle.printout.specs.declared.plan_files.PlanFile.TheVariants.{Pairs}
 
 -- ---- pairs in bytes
-pub pairs_in-append : (n : ℕ) (xs ys : List ℕ) → length xs ≡ 4 * n → pairs_in (xs ++ ys) ≡ pairs_in xs ++ pairs_in ys
-pairs_in-append n [] ys e = refl
-pairs_in-append n (a ∷ []) ys e = absurd (omega arith)
-pairs_in-append n (a ∷ b ∷ []) ys e = absurd (omega arith)
-pairs_in-append n (a ∷ b ∷ c ∷ []) ys e = absurd (omega arith)
-pairs_in-append n (a ∷ b ∷ c ∷ d ∷ xs) ys e =
-    ap (λ os. Faces (number_of a b) (number_of c d) ∷ os) (pairs_in-append (n - 1) xs ys (omega arith))
+pub offers_in-append : (n : ℕ) (xs ys : List ℕ) → length xs ≡ 4 * n → offers_in (xs ++ ys) ≡ offers_in xs ++ offers_in ys
+offers_in-append n [] ys e = refl
+offers_in-append n (a ∷ []) ys e = absurd (omega arith)
+offers_in-append n (a ∷ b ∷ []) ys e = absurd (omega arith)
+offers_in-append n (a ∷ b ∷ c ∷ []) ys e = absurd (omega arith)
+offers_in-append n (a ∷ b ∷ c ∷ d ∷ xs) ys e =
+    ap (λ os. Faces (number_of a b) (number_of c d) ∷ os) (offers_in-append (n - 1) xs ys (omega arith))
 
 -- fewer bytes than were asked for: they are all
 pub short_is_all : (n : ℕ) (bytes all : List ℕ) → bytes ≡ take n all → length bytes < n → all ≡ bytes
@@ -39,12 +39,12 @@ short_is_all n bytes all e short =
     sym (take_all n all (omega (arith, ap length e, length-take n all))) ∙ sym e
 
 -- whole pairs that are a front of a file: they are the first of its pairs
-pub first_pairs : (n k : ℕ) (bytes all : List ℕ) → bytes ≡ take k all → length bytes ≡ 4 * n → IsFront (pairs_in bytes) (pairs_in all)
+pub first_pairs : (n k : ℕ) (bytes all : List ℕ) → bytes ≡ take k all → length bytes ≡ 4 * n → IsFront (offers_in bytes) (offers_in all)
 first_pairs n k bytes all e fours =
     let later = drop k all in
     record {
-      rest = pairs_in later;
-      parts = ap pairs_in (sym (take-append-drop k all) ∙ ap (λ l. l ++ later) (sym e)) ∙ pairs_in-append n bytes later fours;
+      rest = offers_in later;
+      parts = ap offers_in (sym (take-append-drop k all) ∙ ap (λ l. l ++ later) (sym e)) ∙ offers_in-append n bytes later fours;
     }
 
 -- ---- the events of one piece: it is read, and then its pairs are offered
@@ -180,19 +180,19 @@ module _ {S E : Type 0} (does : S → Event PlanFile → S → Type 0) (fails : 
       full_came full = omega (arith, full, ap length all_came, all_asked, length-append (came (same_file Pairs) es) chunk)
 
       pub first_came : (all : List ℕ) → came (same_file Pairs) (piece es gs size chunk quiet) ≡ take (asked (same_file Pairs) (piece es gs size chunk quiet)) all
-          → IsFront (pairs_came (piece es gs size chunk quiet)) (pairs_in all)
+          → IsFront (pairs_came (piece es gs size chunk quiet)) (offers_in all)
       first_came all e = by (eq-or-lt_of_le few)
         where
-          by : (length chunk ≡ size) ⊎ (length chunk < size) → IsFront (pairs_came (piece es gs size chunk quiet)) (pairs_in all)
-          by (inr short) = subst (λ l. IsFront (pairs_came (piece es gs size chunk quiet)) (pairs_in l)) (sym (came_whole short all e)) (whole (pairs_came (piece es gs size chunk quiet)))
+          by : (length chunk ≡ size) ⊎ (length chunk < size) → IsFront (pairs_came (piece es gs size chunk quiet)) (offers_in all)
+          by (inr short) = subst (λ l. IsFront (pairs_came (piece es gs size chunk quiet)) (offers_in l)) (sym (came_whole short all e)) (whole (pairs_came (piece es gs size chunk quiet)))
           by (inl full) =
               first_pairs (told.number + m) (asked (same_file Pairs) (piece es gs size chunk quiet)) (came (same_file Pairs) (piece es gs size chunk quiet)) all e (fours_came full)
 
       -- the walk goes on over its pairs
-      pub walk_came : v ≡ walked set sheet w (pairs_came es) → walked set sheet v (pairs_in chunk) ≡ walked set sheet w (pairs_came (piece es gs size chunk quiet))
+      pub walk_came : v ≡ walked set sheet w (pairs_came es) → walked set sheet v (offers_in chunk) ≡ walked set sheet w (pairs_came (piece es gs size chunk quiet))
       walk_came is =
-          ap (λ x. walked set sheet x (pairs_in chunk)) is ∙ sym (fold-append (offered set sheet) w (pairs_came es) (pairs_in chunk))
-          ∙ ap (walked set sheet w) (sym (pairs_in-append told.number (came (same_file Pairs) es) chunk told.fours) ∙ ap pairs_in (sym all_came))
+          ap (λ x. walked set sheet x (offers_in chunk)) is ∙ sym (fold-append (offered set sheet) w (pairs_came es) (offers_in chunk))
+          ∙ ap (walked set sheet w) (sym (offers_in-append told.number (came (same_file Pairs) es) chunk told.fours) ∙ ap offers_in (sym all_came))
 
       lines_then : (x : Walk) → refusal_lines x ≡ refusal_lines v ++ printed gs → refusal_lines x ≡ refusal_lines w ++ printed (piece es gs size chunk quiet)
       lines_then x e =
@@ -208,7 +208,8 @@ module _ {S E : Type 0} (does : S → Event PlanFile → S → Type 0) (fails : 
       files_then = subst ReadsPairs (sym (files-piece es gs size chunk quiet)) (one_more (files_read es) told.files)
 
     -- it was full, and all goes on
-    pub full_piece : (k : S) → length chunk ≡ size → Offers {X = Unit {0}} does fails set ps fs (pairs_in chunk) t u j (Ok tt) k → Going s u h k
+    pub full_piece : (k : S) → length chunk ≡ size → Offers {X = Unit {0}} does fails set ps fs (offers_in chunk) t u j (Ok tt) k → Going s u h k
+    unfolding Offers
     full_piece k full offers d sheet w made =
         let a = going d sheet w made in
         let v = walked set sheet w (pairs_came a.events) in
@@ -217,7 +218,7 @@ module _ {S E : Type 0} (does : S → Event PlanFile → S → Type 0) (fails : 
         let gs = b.events in
         let told = a.good.0 in
         let quiet = b.good.0.files in
-        let x = walked set sheet v (pairs_in chunk) in
+        let x = walked set sheet v (offers_in chunk) in
         let end = walk_came sheet w v es gs told quiet refl in
         record {
           events = piece es gs size chunk quiet;
@@ -236,7 +237,8 @@ module _ {S E : Type 0} (does : S → Event PlanFile → S → Type 0) (fails : 
         }
 
     -- it was short: that is the end
-    pub last_piece : (k : S) → length chunk < size → Offers {X = Unit {0}} does fails set ps fs (pairs_in chunk) t u j (Ok tt) k → OffersFile {X = Unit {0}} does fails set ps fs s u h (Ok tt) k
+    pub last_piece : (k : S) → length chunk < size → Offers {X = Unit {0}} does fails set ps fs (offers_in chunk) t u j (Ok tt) k → OffersFile {X = Unit {0}} does fails set ps fs s u h (Ok tt) k
+    unfolding Offers
     last_piece k short offers d sheet w made =
         let a = going d sheet w made in
         let v = walked set sheet w (pairs_came a.events) in
@@ -245,7 +247,7 @@ module _ {S E : Type 0} (does : S → Event PlanFile → S → Type 0) (fails : 
         let gs = b.events in
         let told = a.good.0 in
         let quiet = b.good.0.files in
-        let x = walked set sheet v (pairs_in chunk) in
+        let x = walked set sheet v (offers_in chunk) in
         let end = walk_came sheet w v es gs told quiet refl in
         record {
           events = piece es gs size chunk quiet;
@@ -262,7 +264,8 @@ module _ {S E : Type 0} (does : S → Event PlanFile → S → Type 0) (fails : 
         }
 
     -- a call fails while its pairs are offered
-    pub piece_in_part : (k : S) (e : E) (z : State) → Offers {X = Unit {0}} does fails set ps fs (pairs_in chunk) t u j (Err e) k → OffersFile {X = Unit {0}} does fails set ps fs s z h (Err e) k
+    pub piece_in_part : (k : S) (e : E) (z : State) → Offers {X = Unit {0}} does fails set ps fs (offers_in chunk) t u j (Err e) k → OffersFile {X = Unit {0}} does fails set ps fs s z h (Err e) k
+    unfolding Offers
     piece_in_part k e z offers d sheet w made =
         let a = going d sheet w made in
         let v = walked set sheet w (pairs_came a.events) in
@@ -272,7 +275,7 @@ module _ {S E : Type 0} (does : S → Event PlanFile → S → Type 0) (fails : 
         let told = a.good.0 in
         let silent = nothing_read (files_read gs) (unread b.call) b.part.files in
         let quiet = silent.0 in
-        let x = walked set sheet v (pairs_in chunk) in
+        let x = walked set sheet v (offers_in chunk) in
         let end = walk_came sheet w v es gs told quiet refl in
         let line = ap (λ l. l ++ printed gs) told.lines ∙ append_assoc (refusal_lines w) (printed es) (printed gs) ∙ ap (λ l. refusal_lines w ++ l) (sym (printed-piece es gs size chunk quiet)) in
         let pair = ap (λ l. l ++ stored gs) told.pairs ∙ append_assoc (refused_pairs w) (stored es) (stored gs) ∙ ap (λ l. refused_pairs w ++ l) (sym (stored-piece es gs size chunk quiet)) in

@@ -25,12 +25,10 @@ shows_more p q r a b first more lent text h =
     subst (λ t. Shows lent t r) (append_assoc text a b) (more lent (text ++ a) (first lent text h))
 
 -- ---- one call
-module _ (m o : Memory) (same_page : o.page.ghost_name ≡ m.page.ghost_name) (same_refused : o.refused.ghost_name ≡ m.refused.ghost_name) where
-  pub file_read : (file : PlanFile) (n : ℕ) (bytes : List ℕ)
-      → bytes ≡ take n (bytes_of (left_in m) file)
-      → ((f : PlanFile) → bytes_of (left_in o) f ≡ drop (if same_file f file then n else 0) (bytes_of (left_in m) f))
-      → o.page.now ≡ m.page.now → o.refused.now ≡ m.refused.now → HoldsMore m (Read file n bytes) o
-  file_read file n bytes front left page refused =
+module _ (m o : Memory) (n : ℕ) (bytes : List ℕ) (page : o.page.now ≡ m.page.now) (refused : o.refused.now ≡ m.refused.now) (same_page : o.page.ghost_name ≡ m.page.ghost_name) (same_refused : o.refused.ghost_name ≡ m.refused.ghost_name) where
+  file_read : (file : PlanFile) → bytes ≡ take n (bytes_of (left_in m) file)
+      → ((f : PlanFile) → bytes_of (left_in o) f ≡ drop (if same_file f file then n else 0) (bytes_of (left_in m) f)) → HoldsMore m (Read file n bytes) o
+  file_read file front left =
       record {
         came = came_from file front;
         left = left;
@@ -47,34 +45,48 @@ module _ (m o : Memory) (same_page : o.page.ghost_name ≡ m.page.ghost_name) (s
       came_from Pairs front Pairs = front
       came_from file front f = refl
 
-  module _ (bytes : List ℕ) (left : (f : PlanFile) → bytes_of (left_in o) f ≡ bytes_of (left_in m) f) where
-    pub text_printed : (r : Result Unit Infallible) → o.refused.now ≡ m.refused.now
-        → MatchResult r (λ x. ShowsMore m.page.now (Printed bytes) o.page.now) (λ e. CutOff ShowsMore PageNeverFails m.page.now Printed Printing bytes e o.page.now)
-        → MatchResult r (λ x. HoldsMore m (Printed bytes) o) (λ e. CutOff HoldsMore NeverFails m Printed Printing bytes e o)
-    text_printed (Err e) refused cut = absurd cut.failed
-    text_printed (Ok x) refused shown =
-        record {
-          came = λ f. refl;
-          left = left;
-          printed = shown;
-          stored = subst (ShowsMore m.refused.now (Printed [])) (sym refused) (shows_as_before m.refused.now);
-          same_page = same_page;
-          same_refused = same_refused;
-        }
+  pub sheet_read : bytes ≡ take n m.sheet.now → o.sheet.now ≡ drop n m.sheet.now → o.step.now ≡ m.step.now → o.pairs.now ≡ m.pairs.now → HoldsMore m (Read Sheet n bytes) o
+  sheet_read front left step pairs = file_read Sheet front (elim [ Sheet ↦ left | Step ↦ step | Pairs ↦ pairs ])
 
-    pub pair_stored : (r : Result Unit Infallible) → o.page.now ≡ m.page.now
-        → MatchResult r (λ x. ShowsMore m.refused.now (Printed bytes) o.refused.now) (λ e. CutOff ShowsMore PageNeverFails m.refused.now Printed Printing bytes e o.refused.now)
-        → MatchResult r (λ x. HoldsMore m (Stored bytes) o) (λ e. CutOff HoldsMore NeverFails m Stored Storing bytes e o)
-    pair_stored (Err e) page cut = absurd cut.failed
-    pair_stored (Ok x) page shown =
-        record {
-          came = λ f. refl;
-          left = left;
-          printed = subst (ShowsMore m.page.now (Printed [])) (sym page) (shows_as_before m.page.now);
-          stored = shown;
-          same_page = same_page;
-          same_refused = same_refused;
-        }
+  pub step_read : bytes ≡ take n m.step.now → o.step.now ≡ drop n m.step.now → o.sheet.now ≡ m.sheet.now → o.pairs.now ≡ m.pairs.now → HoldsMore m (Read Step n bytes) o
+  step_read front left sheet pairs = file_read Step front (elim [ Sheet ↦ sheet | Step ↦ left | Pairs ↦ pairs ])
+
+  pub pairs_read : bytes ≡ take n m.pairs.now → o.pairs.now ≡ drop n m.pairs.now → o.sheet.now ≡ m.sheet.now → o.step.now ≡ m.step.now → HoldsMore m (Read Pairs n bytes) o
+  pairs_read front left sheet step = file_read Pairs front (elim [ Sheet ↦ sheet | Step ↦ step | Pairs ↦ left ])
+
+module _ (m o : Memory) (bytes : List ℕ) (sheet : o.sheet ≡ m.sheet) (step : o.step ≡ m.step) (pairs : o.pairs ≡ m.pairs) (same_page : o.page.ghost_name ≡ m.page.ghost_name) (same_refused : o.refused.ghost_name ≡ m.refused.ghost_name) where
+  left_as_is : (f : PlanFile) → bytes_of (left_in o) f ≡ bytes_of (left_in m) f
+  left_as_is Sheet = ap (λ s. s.now) sheet
+  left_as_is Step = ap (λ s. s.now) step
+  left_as_is Pairs = ap (λ s. s.now) pairs
+
+  pub text_printed : (r : Result Unit Infallible) → o.refused.now ≡ m.refused.now
+      → MatchResult r (λ x. ShowsMore m.page.now (Printed bytes) o.page.now) (λ e. CutOff ShowsMore PageNeverFails m.page.now Printed Printing bytes e o.page.now)
+      → MatchResult r (λ x. HoldsMore m (Printed bytes) o) (λ e. CutOff HoldsMore NeverFails m Printed Printing bytes e o)
+  text_printed (Err e) refused cut = absurd cut.failed
+  text_printed (Ok x) refused shown =
+      record {
+        came = λ f. refl;
+        left = left_as_is;
+        printed = shown;
+        stored = subst (ShowsMore m.refused.now (Printed [])) (sym refused) (shows_as_before m.refused.now);
+        same_page = same_page;
+        same_refused = same_refused;
+      }
+
+  pub pair_stored : (r : Result Unit Infallible) → o.page.now ≡ m.page.now
+      → MatchResult r (λ x. ShowsMore m.refused.now (Printed bytes) o.refused.now) (λ e. CutOff ShowsMore PageNeverFails m.refused.now Printed Printing bytes e o.refused.now)
+      → MatchResult r (λ x. HoldsMore m (Stored bytes) o) (λ e. CutOff HoldsMore NeverFails m Stored Storing bytes e o)
+  pair_stored (Err e) page cut = absurd cut.failed
+  pair_stored (Ok x) page shown =
+      record {
+        came = λ f. refl;
+        left = left_as_is;
+        printed = subst (ShowsMore m.page.now (Printed [])) (sym page) (shows_as_before m.page.now);
+        stored = shown;
+        same_page = same_page;
+        same_refused = same_refused;
+      }
 
 -- ---- all calls together
 pub record Held (m : Memory) (es : List (Event PlanFile)) (n : Memory) : Type 0 where

@@ -4,7 +4,6 @@ pub mod Kept
 pub mod Offers
 pub mod Phases
 pub mod Reported
-pub mod Requests
 pub mod Rows
 pub mod Telling
 pub mod Turns

@@ -7,6 +7,7 @@ use Rattle.inspection.proofs.Inside.{VfIn, EeIn, after_all, vf_in, ee_in}
 use Rattle.sheet.proofs.FirstFit.{none_parts, no_fit, none_fits}
 use Rattle.sheet.specs.Checks.{first_fit}
 use Rattle.sheet.specs.declared.notices.Layer.TheVariants.{Offer}
+use Rattle.sheet.specs.declared.notices.Notice.{Notice}
 use Rattle.sheet.specs.declared.drafts.Draft.{Draft}
 use Rattle.sheet.specs.declared.rows.Point.{Point}
 use Rattle.sheet.specs.declared.rows.Face.{Face}
@@ -17,7 +18,8 @@ use Rattle.inspection.specs.declared.faults.OfferFault.{OfferFault}
 use Rattle.inspection.specs.Classes.{Rules, rules_at, class_of, entries_with, entries_after}
 use Rattle.inspection.specs.Faults.{check, notice_of_offer}
 use Rattle.inspection.specs.Lists.{Contents, with_entries}
-use Rattle.inspection.specs.Offerings.{Offering, Faces}
+use Rattle.inspection.specs.declared.offerings.Offering.{Offering}
+use Rattle.inspection.specs.declared.offerings.Offering.TheVariants.{Faces}
 use Rattle.inspection.specs.Offers.{lacks_rows, lacks_room, pair_checks, offer_checks, room_check, entries_by, tally_by, OfferStep}
 use Rattle.inspection.specs.Runs.{Run, offered as run_offered}
 use Rattle.inspection.specs.Sheets.{Sheet, sheet_in, face_at, moving_of}
@@ -27,7 +29,7 @@ use Rattle.hosts.specs.Events.{Event, Call}
 use Rattle.hosts.specs.Traces.{nothing}
 use Rattle.hosts.specs.Works.{Worked}
 use Rattle.printout.specs.Printouts.{notice_line}
-use Rattle.printout.specs.Progress.{Made, Tells, TellsInPart, Says, SaysInPart}
+use Rattle.printout.specs.Progress.{Made, Refuses, Offers}
 use Rattle.printout.specs.Walks.{Walk, places, pair_bytes, is_full, refusal, found_after, vf_after, ee_after, sorted_in, offered, walked}
 use Rattle.printout.specs.declared.plan_files.PlanFile.{PlanFile}
 use Rattle.printout.proofs.Telling.{tells_none, tells_one, tells_part_of_one}
@@ -166,31 +168,31 @@ module _ (set : Shape → Bool) (d : Draft) (ps : List Point) (fs : List Face) (
     made (Err e) t step =
         subst (λ n. Made set d ps fs sheet (sorted_in set sheet w o n) t) (step.fault ∙ same_refusal) (refused e t step)
 
-  -- ---- what an offer leaves and tells, in the words of the calls
-  module _ {S E : Type 0} (does : S → Event PlanFile → S → Type 0) (fails : S → Call PlanFile → E → S → Type 0) (o : Offering) (s t : State) where
-    pub offer_accepted : (X : Type 0) (h : S) (x : X) (u : Unit {0}) → OfferStep set ps fs o s (Ok u) t → (w : Walk) → Made set d ps fs sheet w s
-        → Worked does fails (λ es y. Tells w (walked set sheet w (o ∷ [])) es × Made set d ps fs sheet (walked set sheet w (o ∷ [])) t) (TellsInPart w (walked set sheet w (o ∷ []))) h (Ok x) h
-    offer_accepted X h x u step w m =
-        record {
-          events = [];
-          went = nothing;
-          good = (tells_none set sheet w o (sym (same_refusal o w s m) ∙ sym step.fault), made o w s m (Ok u) t step);
-        }
+-- ---- what an offer leaves and tells, in the words of the calls
+module _ {S E : Type 0} (does : S → Event PlanFile → S → Type 0) (fails : S → Call PlanFile → E → S → Type 0)
+    (set : Shape → Bool) (ps : List Point) (fs : List Face) (o : Offering) (s t : State) where
+  pub offer_accepted : (h : S) → OfferStep set ps fs o s (Ok tt) t → Offers {X = Unit {0}} does fails set ps fs (o ∷ []) s t h (Ok tt) h
+  unfolding Offers
+  offer_accepted h step d sheet w m =
+      record {
+        events = [];
+        went = nothing;
+        good = (tells_none set sheet w o (sym (same_refusal set d ps fs sheet o w s m) ∙ sym step.fault), made set d ps fs sheet o w s m (Ok tt) t step);
+      }
 
-    pub offer_refused : (X : Type 0) (h h' : S) (e : OfferFault) → OfferStep set ps fs o s (Err e) t → (r : Result X E)
-        → Worked does fails (λ es x. Says (notice_line (notice_of_offer e)) (pair_bytes o) es) (SaysInPart (notice_line (notice_of_offer e)) (pair_bytes o)) h r h'
-        → (w : Walk) → Made set d ps fs sheet w s
-        → Worked does fails (λ es y. Tells w (walked set sheet w (o ∷ [])) es × Made set d ps fs sheet (walked set sheet w (o ∷ [])) t) (TellsInPart w (walked set sheet w (o ∷ []))) h r h'
-    offer_refused X h h' e step (Ok x) p w m =
-        let is = sym (same_refusal o w s m) ∙ sym step.fault in
-        record { events = p.events; went = p.went; good = (tells_one set sheet w o (notice_of_offer e) is p.events p.good, made o w s m (Err e) t step) }
-    offer_refused X h h' e step (Err x) p w m =
-        let is = sym (same_refusal o w s m) ∙ sym step.fault in
-        record {
-          events = p.events;
-          call = p.call;
-          before = p.before;
-          went = p.went;
-          failed = p.failed;
-          part = tells_part_of_one set sheet w o (notice_of_offer e) is p.events p.call p.part;
-        }
+  pub offer_refused : (X : Type 0) (h h' : S) (e : OfferFault) (n : Notice) → OfferStep set ps fs o s (Err e) t → n ≡ notice_of_offer e → (r : Result X E)
+      → Refuses does fails n o h r h' → Offers does fails set ps fs (o ∷ []) s t h r h'
+  unfolding Refuses Offers
+  offer_refused X h h' e n step why (Ok x) p d sheet w m =
+      let is = sym (same_refusal set d ps fs sheet o w s m) ∙ sym step.fault ∙ ap Some (sym why) in
+      record { events = p.events; went = p.went; good = (tells_one set sheet w o n is p.events p.good, made set d ps fs sheet o w s m (Err e) t step) }
+  offer_refused X h h' e n step why (Err x) p d sheet w m =
+      let is = sym (same_refusal set d ps fs sheet o w s m) ∙ sym step.fault ∙ ap Some (sym why) in
+      record {
+        events = p.events;
+        call = p.call;
+        before = p.before;
+        went = p.went;
+        failed = p.failed;
+        part = tells_part_of_one set sheet w o n is p.events p.call p.part;
+      }

@@ -7,7 +7,8 @@ use Rattle.hosts.proofs.Histories.{prints_store_nothing, prints_read_nothing}
 use Rattle.sheet.specs.declared.notices.Notice.{Notice}
 use Rattle.printout.specs.Outcomes.{same_file, EndsWith, StopsWith}
 use Rattle.printout.specs.Plans.{Plan, fault, printout, printout_by, sheet, draft}
-use Rattle.printout.specs.Walks.{pairs_in, just_opened, walked, refusal_lines}
+use Rattle.inspection.specs.PairBytes.{offers_in}
+use Rattle.printout.specs.Walks.{just_opened, walked, refusal_lines}
 use Rattle.motion.specs.Rows.{delivered}
 use Rattle.printout.specs.Printouts.{notice_line}
 use Rattle.printout.specs.declared.endings.Ending.{Ending}
@@ -87,5 +88,5 @@ module _ (p : Plan) (needed_in : ℕ → List PlanFile) where
           pieces = s.pieces;
           files = front_of ((f ∷ files_read es) ++ unread call) s.files.rest (before s.pieces) (more s.pieces ∙ ap (λ l. f ∷ l) s.files.parts);
           told = λ g c. s.told g c
-              ∙ ap (λ b. refusal_lines (walked delivered (sheet p) (just_opened (draft p)) (pairs_in ((if b then bytes else []) ++ came (same_file Pairs) es)))) (sym other);
+              ∙ ap (λ b. refusal_lines (walked delivered (sheet p) (just_opened (draft p)) (offers_in ((if b then bytes else []) ++ came (same_file Pairs) es)))) (sym other);
         }

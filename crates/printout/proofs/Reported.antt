@@ -20,19 +20,20 @@ use Rattle.inspection.specs.declared.kinds.ListKind.TheVariants.{Vf, Ee}
 use Rattle.inspection.specs.declared.names.VfName.{VfName}
 use Rattle.inspection.specs.declared.names.EeName.{EeName}
 use Rattle.inspection.specs.Claims.{Claim, Findings}
-use Rattle.inspection.specs.Offerings.{Offering}
+use Rattle.inspection.specs.declared.offerings.Offering.{Offering}
 use Rattle.inspection.specs.Offers.{lacks_rows}
 use Rattle.inspection.specs.Runs.{Accepted, Opened, opened}
 use Rattle.inspection.specs.Sheets.{Sheet, sheet_in}
 use Rattle.inspection.specs.States.{State, Core, core_at_start}
 use Rattle.inspection.specs.Tests.{Naming, vf_naming, ee_naming}
+use Rattle.inspection.specs.PairBytes.{offers_in}
 use Rattle.report.specs.Faults.{place_of}
 use Rattle.report.specs.Reports.{View, check, AllInside, checks_from, entry_checks, entry_limit, len_checks, numbered, report_text}
 use Rattle.printout.specs.Outcomes.{same_file, StopsWith}
 use Rattle.printout.specs.Phases.{FitsFile, HoldsPlan, PairsRan}
 use Rattle.printout.specs.Plans.{Plan, printout, printout_by, sheet, draft, walk, report_of, state_found}
 use Rattle.printout.specs.Progress.{Made, pairs_came, ReadsPairs, TellsFileInPart, OffersFile}
-use Rattle.printout.specs.Walks.{Walk, Found, depth, places, pairs_in, just_opened, offered, walked, refusal_lines, refused_pairs}
+use Rattle.printout.specs.Walks.{Walk, Found, depth, places, just_opened, offered, walked, refusal_lines, refused_pairs}
 use Rattle.printout.specs.declared.endings.Ending.{Ending}
 use Rattle.printout.specs.declared.endings.Ending.TheVariants.{Complete}
 use Rattle.printout.specs.declared.plan_files.PlanFile.{PlanFile}
@@ -103,10 +104,10 @@ module _ (d : Draft) (ps : List Point) (fs : List Face) where
     same_walk os = λ i. walked delivered (h.sheet i) (just_opened (h.draft i)) os
 
     pub whole_walk : p.pairs ≡ came (same_file Pairs) es → end ≡ walk p
-    whole_walk all = same_walk (pairs_came es) ∙ ap (λ bytes. walked delivered (sheet p) (just_opened (draft p)) (pairs_in bytes)) (sym all)
+    whole_walk all = same_walk (pairs_came es) ∙ ap (λ bytes. walked delivered (sheet p) (just_opened (draft p)) (offers_in bytes)) (sym all)
 
     -- the first of its pairs
-    pub first_walk : IsFront (pairs_came es) (pairs_in p.pairs) → IsFront (refusal_lines end) (refusal_lines (walk p)) × IsFront (refused_pairs end) (refused_pairs (walk p))
+    pub first_walk : IsFront (pairs_came es) (offers_in p.pairs) → IsFront (refusal_lines end) (refusal_lines (walk p)) × IsFront (refused_pairs end) (refused_pairs (walk p))
     first_walk first =
         let more = goes_on delivered (sheet p) (walked delivered (sheet p) (just_opened (draft p)) (pairs_came es)) first.rest in
         let all : walked delivered (sheet p) (walked delivered (sheet p) (just_opened (draft p)) (pairs_came es)) first.rest ≡ walk p =

@@ -8,43 +8,46 @@ use Rattle.hosts.proofs.Fronts.{whole, front_of, front_of_front, front_behind}
 use Rattle.hosts.proofs.Histories.{prints_store_nothing, prints_read_nothing}
 use Rattle.sheet.specs.declared.notices.Notice.{Notice}
 use Rattle.motion.specs.declared.shapes.Shape.{Shape}
-use Rattle.inspection.specs.Offerings.{Offering}
+use Rattle.inspection.specs.declared.offerings.Offering.{Offering}
 use Rattle.inspection.specs.Sheets.{Sheet}
 use Rattle.printout.specs.Printouts.{notice_line}
-use Rattle.printout.specs.Progress.{Tells, TellsInPart, Says, SaysInPart}
+use Rattle.printout.specs.Progress.{Tells, TellsInPart, Says, SaysInPart, Refuses}
 use Rattle.printout.specs.Walks.{Walk, pair_bytes, refusal, sorted_in, offered, walked, refusal_lines, refused_pairs}
 use Rattle.printout.specs.declared.plan_files.PlanFile.{PlanFile}
 
--- ---- a text that is printed, and then bytes that are stored
-module _ {S E : Type 0} (does : S → Event PlanFile → S → Type 0) (fails : S → Call PlanFile → E → S → Type 0) (text bytes : List ℕ) where
-  pub says_no_more : (X Y : Type 0) (s t : S) (e : E) → Stopped does fails (IsPrintedInPart text) s e t
-      → Worked does fails {X = Y} (λ es y. Says text bytes es) (SaysInPart text bytes) s (Err e) t
-  says_no_more X Y s t e p =
-      record {
+-- ---- a line that is printed, and then a pair that is stored
+module _ {S E : Type 0} (does : S → Event PlanFile → S → Type 0) (fails : S → Call PlanFile → E → S → Type 0) (n : Notice) (o : Offering) where
+  pub says_no_more : (Y : Type 0) (s t : S) (e : E) (r : Result Y E) → Stopped does fails (IsPrintedInPart (notice_line n)) s e t → r ≡ Err e
+      → Refuses does fails n o s r t
+  unfolding Refuses
+  says_no_more Y s t e r p is =
+      subst (λ r. Refuses does fails n o s r t) (sym is)
+      (record {
         events = p.events;
         call = p.call;
         before = p.before;
         went = p.went;
         failed = p.failed;
         part = record {
-          printed = front_of (printed p.events) p.part.rest text p.part.parts;
-          stored = front_of (stored p.events) bytes bytes (ap (λ l. l ++ bytes) (sym (prints_store_nothing p.events p.part.alone)));
+          printed = front_of (printed p.events) p.part.rest (notice_line n) p.part.parts;
+          stored = front_of (stored p.events) (pair_bytes o) (pair_bytes o) (ap (λ l. l ++ (pair_bytes o)) (sym (prints_store_nothing p.events p.part.alone)));
           files = (λ i. prints_read_nothing p.events p.part.alone i ++ unread (p.part.failed i));
         };
-      }
+      })
 
-  pub says : (X Y : Type 0) (s t u : S) (x : X) (r : Result Y E) → Prints does fails text s (Ok x) t
-      → MatchResult r (λ y. does t (Stored bytes) u) (λ e. CutOff does fails t Stored Storing bytes e u)
-      → Worked does fails (λ es y. Says text bytes es) (SaysInPart text bytes) s r u
+  pub says : (X Y : Type 0) (s t u : S) (x : X) (r : Result Y E) → Prints does fails (notice_line n) s (Ok x) t
+      → MatchResult r (λ y. does t (Stored (pair_bytes o)) u) (λ e. CutOff does fails t Stored Storing (pair_bytes o) e u)
+      → Refuses does fails n o s r u
+  unfolding Refuses
   says X Y s t u x (Ok y) p d =
       let before = p.events in
-      let e = Stored bytes in
+      let e = Stored (pair_bytes o) in
       record {
         events = before ++ (e ∷ []);
         went = next e p.went d;
         good = record {
           printed = flat_map-append printed_by before (e ∷ []) ∙ append-nil (printed before) ∙ p.good.whole;
-          stored = flat_map-append stored_by before (e ∷ []) ∙ (λ i. prints_store_nothing before p.good.alone i ++ append-nil bytes i);
+          stored = flat_map-append stored_by before (e ∷ []) ∙ (λ i. prints_store_nothing before p.good.alone i ++ append-nil (pair_bytes o) i);
           files = flat_map-append file_read_by before (e ∷ []) ∙ append-nil (files_read before) ∙ prints_read_nothing before p.good.alone;
         };
       }
@@ -58,9 +61,9 @@ module _ {S E : Type 0} (does : S → Event PlanFile → S → Type 0) (fails : 
         went = next v p.went c.did;
         failed = c.failed;
         part = record {
-          printed = front_of (printed (before ++ (v ∷ []))) [] text
+          printed = front_of (printed (before ++ (v ∷ []))) [] (notice_line n)
               (sym (append-nil (printed (before ++ (v ∷ []))) ∙ flat_map-append printed_by before (v ∷ []) ∙ append-nil (printed before) ∙ p.good.whole));
-          stored = front_of (stored (before ++ (v ∷ []))) c.rest bytes
+          stored = front_of (stored (before ++ (v ∷ []))) c.rest (pair_bytes o)
               (c.parts ∙ ap (λ l. l ++ c.rest) (sym (flat_map-append stored_by before (v ∷ []) ∙ (λ i. prints_store_nothing before p.good.alone i ++ append-nil c.front i))));
           files = append-nil (files_read (before ++ (v ∷ []))) ∙ flat_map-append file_read_by before (v ∷ []) ∙ append-nil (files_read before) ∙ prints_read_nothing before p.good.alone;
         };

@@ -7,7 +7,7 @@ use Rattle.hosts.proofs.Histories.{went_on}
 use Rattle.sheet.specs.declared.rows.Point.{Point}
 use Rattle.sheet.specs.declared.rows.Face.{Face}
 use Rattle.motion.specs.declared.shapes.Shape.{Shape}
-use Rattle.inspection.specs.Offerings.{Offering}
+use Rattle.inspection.specs.declared.offerings.Offering.{Offering}
 use Rattle.inspection.specs.Sheets.{Sheet}
 use Rattle.inspection.specs.States.{State}
 use Rattle.printout.specs.Progress.{Made, Tells, TellsInPart, Offers}
@@ -21,6 +21,7 @@ module _ {S E : Type 0} (does : S → Event PlanFile → S → Type 0) (fails : 
   walked-append sheet w os more = fold-append (offered set sheet) w os more
 
   pub none_offered : (X : Type 0) (s : State) (h : S) (x : X) → Offers does fails set ps fs [] s s h (Ok x) h
+  unfolding Offers
   none_offered X s h x d sheet w m =
       record {
         events = [];
@@ -30,6 +31,7 @@ module _ {S E : Type 0} (does : S → Event PlanFile → S → Type 0) (fails : 
 
   pub offers_then : (X Y Z : Type 0) (os more : List Offering) (s t u : State) (h i j : S) (x : X) (y : Y) (z : Z)
       → Offers does fails set ps fs os s t h (Ok x) i → Offers does fails set ps fs more t u i (Ok y) j → Offers does fails set ps fs (os ++ more) s u h (Ok z) j
+  unfolding Offers
   offers_then X Y Z os more s t u h i j x y z first second d sheet w m =
       let v = walked set sheet w os in
       let a = first d sheet w m in
@@ -43,6 +45,7 @@ module _ {S E : Type 0} (does : S → Event PlanFile → S → Type 0) (fails : 
 
   pub offers_stop : (X Y Z : Type 0) (os more later : List Offering) (s t u v : State) (h i j : S) (x : X) (e : E)
       → Offers does fails set ps fs os s t h (Ok x) i → Offers {X = Y} does fails set ps fs more t u i (Err e) j → Offers {X = Z} does fails set ps fs ((os ++ more) ++ later) s v h (Err e) j
+  unfolding Offers
   offers_stop X Y Z os more later s t u v h i j x e first second d sheet w m =
       let mid = walked set sheet w os in
       let a = first d sheet w m in

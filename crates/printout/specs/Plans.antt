@@ -13,9 +13,10 @@ use Rattle.inspection.specs.Claims.{Claim}
 use Rattle.inspection.specs.Lists.{Contents}
 use Rattle.inspection.specs.Sheets.{Sheet, sheet_of}
 use Rattle.inspection.specs.States.{State}
+use Rattle.inspection.specs.PairBytes.{offers_in}
 use Rattle.report.specs.Reports.{View, report_text}
 use Rattle.printout.specs.Printouts.{Printout, notice_line}
-use Rattle.printout.specs.Walks.{Walk, Found, pairs_in, just_opened, walked, refusal_lines, refused_pairs}
+use Rattle.printout.specs.Walks.{Walk, Found, just_opened, walked, refusal_lines, refused_pairs}
 use Rattle.printout.specs.declared.endings.Ending.TheVariants.{Complete, Faulty}
 use Rattle.printout.specs.declared.plan_files.PlanFile.{PlanFile}
 use Rattle.printout.specs.declared.plan_files.PlanFile.TheVariants.{Sheet as SheetFile, Step as StepFile, Pairs as PairsFile}
@@ -68,7 +69,7 @@ names_alone es = record { entries = es; rest = []; lender = 0 }
 -- ---- what is printed and stored
 -- all of its pairs, offered one after another
 abbrev pub walk : Plan → Walk
-walk p = walked delivered (sheet p) (just_opened (draft p)) (pairs_in p.pairs)
+walk p = walked delivered (sheet p) (just_opened (draft p)) (offers_in p.pairs)
 
 abbrev pub report_of : Plan → Found → List ℕ
 report_of p f =

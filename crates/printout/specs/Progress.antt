@@ -3,17 +3,20 @@ use Rattle.std.specs.Prelude.{◌≡◌, ℕ, ◌+◌, Bool, IsTrue, IsFalse, Al
 use Rattle.hosts.specs.Events.{Event, Call, Reading, printed, stored, files_read, unread, asked, came}
 use Rattle.hosts.specs.Works.{Worked, IsFront}
 use Rattle.sheet.specs.declared.drafts.Draft.{Draft}
+use Rattle.sheet.specs.declared.notices.Notice.{Notice}
 use Rattle.sheet.specs.declared.rows.Point.{Point}
 use Rattle.sheet.specs.declared.rows.Face.{Face}
 use Rattle.motion.specs.declared.shapes.Shape.{Shape}
 use Rattle.inspection.specs.Offers.{lacks_rows}
-use Rattle.inspection.specs.Offerings.{Offering}
+use Rattle.inspection.specs.declared.offerings.Offering.{Offering}
 use Rattle.inspection.specs.Runs.{Run}
 use Rattle.inspection.specs.Sheets.{Sheet, sheet_in}
 use Rattle.inspection.specs.States.{State}
 use Rattle.inspection.specs.Tests.{vf_inside, ee_inside}
+use Rattle.inspection.specs.PairBytes.{offers_in}
 use Rattle.printout.specs.Outcomes.{same_file}
-use Rattle.printout.specs.Walks.{Walk, places, pairs_in, walked, refusal_lines, refused_pairs}
+use Rattle.printout.specs.Printouts.{notice_line}
+use Rattle.printout.specs.Walks.{Walk, places, pair_bytes, walked, refusal_lines, refused_pairs}
 use Rattle.printout.specs.declared.plan_files.PlanFile.{PlanFile}
 use Rattle.printout.specs.declared.plan_files.PlanFile.TheVariants.{Pairs}
 
@@ -56,9 +59,17 @@ pub record SaysInPart (text bytes : List ℕ) (es : List (Event PlanFile)) (call
   pub stored : IsFront (stored es) bytes
   pub files : files_read es ++ unread call ≡ []
 
+-- why a pair is refused is printed, and the pair stored
+unfoldable pub Refuses : {S E X : Type 0} → (S → Event PlanFile → S → Type 0) → (S → Call PlanFile → E → S → Type 0)
+    → Notice → Offering → S → Result X E → S → Type 0
+Refuses does fails n o s r t =
+    let line = notice_line n in
+    let pair = pair_bytes o in
+    Worked does fails (λ es x. Says line pair es) (SaysInPart line pair) s r t
+
 -- pairs are offered, from the state s to t: whatever walk s has made, t has made it further
 module _ {S E X : Type 0} (does : S → Event PlanFile → S → Type 0) (fails : S → Call PlanFile → E → S → Type 0) where
-  abbrev pub Offers : (Shape → Bool) → List Point → List Face → List Offering → State → State → S → Result X E → S → Type 0
+  unfoldable pub Offers : (Shape → Bool) → List Point → List Face → List Offering → State → State → S → Result X E → S → Type 0
   Offers set ps fs os s t h r h' =
       (d : Draft) (sheet : Sheet) (w : Walk) → Made set d ps fs sheet w s
       → Worked does fails
@@ -68,7 +79,7 @@ module _ {S E X : Type 0} (does : S → Event PlanFile → S → Type 0) (fails 
 -- ---- the pairs of the plan's file are offered as they come
 -- those that came
 abbrev pub pairs_came : List (Event PlanFile) → List Offering
-pairs_came es = pairs_in (came (same_file Pairs) es)
+pairs_came es = offers_in (came (same_file Pairs) es)
 
 -- only that file is read, in so many pieces
 pub record ReadsPairs (files : List PlanFile) : Type 0 where
@@ -92,7 +103,7 @@ pub record TellsFileInPart (w v : Walk) (es : List (Event PlanFile)) (call : Cal
   pub files : ReadsPairs (files_read es ++ unread call)
   -- the pairs that came are the first of the file's
   pub first : (all : List ℕ) → came (same_file Pairs) es ≡ take (asked (same_file Pairs) es) all
-      → IsFront (pairs_came es) (pairs_in all)
+      → IsFront (pairs_came es) (offers_in all)
   -- where reading fails, all is told of those that came
   pub told : (f : PlanFile) → call ≡ Reading f → refusal_lines v ≡ refusal_lines w ++ printed es
 

@@ -7,9 +7,9 @@ use Rattle.sheet.specs.declared.notices.Layer.TheVariants.{Offer}
 use Rattle.sheet.specs.declared.notices.Notice.{Notice}
 use Rattle.motion.specs.declared.shapes.Shape.{Shape}
 use Rattle.inspection.specs.Faults.{check}
-use Rattle.inspection.specs.Offerings.{Offering, Faces}
+use Rattle.inspection.specs.declared.offerings.Offering.{Offering}
+use Rattle.inspection.specs.declared.offerings.Offering.TheVariants.{Faces}
 use Rattle.inspection.specs.Offers.{pair_checks, entries_by, tally_by}
-use Rattle.inspection.specs.PairBytes.{number_of}
 use Rattle.inspection.specs.Runs.{Accepted}
 use Rattle.inspection.specs.Sheets.{Sheet}
 use Rattle.inspection.specs.States.{Core, core_at_start, with_counts}
@@ -26,12 +26,7 @@ depth = 2
 abbrev pub places : ℕ
 places = 512
 
--- ---- pairs in bytes: two face numbers of two bytes each, the lower byte first
--- a rest of under four bytes is skipped
-abbrev pub pairs_in : List ℕ → List Offering
-pairs_in (a ∷ b ∷ c ∷ d ∷ rest) = Faces (number_of a b) (number_of c d) ∷ pairs_in rest
-pairs_in bytes = []
-
+-- the bytes that hold a pair
 abbrev pub pair_bytes : Offering → List ℕ
 pair_bytes (Faces f g) = to_le_bytes w16 f ++ to_le_bytes w16 g
 

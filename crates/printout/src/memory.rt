@@ -1,5 +1,5 @@
 // A plan in memory.
-ghost use Rattle.std.specs.Prelude.{◌≡◌, ◌↔◌, ◌+◌, ◌-◌, ◌^◌, length, min, None};
+ghost use Rattle.std.specs.Prelude.{◌≡◌, ◌↔◌, ◌+◌, ◌-◌, ◌^◌, ◌≤◌, length, take, drop, min, None};
 ghost use Rattle.hosts.specs.Pages.{onto_page, Filled};
 ghost use Rattle.printout.specs.Memory.{plan, left_in};
 ghost use Rattle.printout.specs.Plans.{fault, printout, ClaimOfPlan};
@@ -43,33 +43,36 @@ impl Host for Memory<'_, '_, '_, '_, '_, '_, '_> {
 
     ghost most = { λ m. length m.sheet.now + length m.step.now + length m.pairs.now };
 
+    #[tactic(auto, using(crate::proofs::Kept::sheet_read, crate::proofs::Kept::step_read, crate::proofs::Kept::pairs_read))]
     fn fill(&mut self, file: PlanFile, buf: &mut [u8]) -> Result<usize, Infallible> {
         match file {
-            PlanFile::Sheet => {
-                let n = copy_front(self.sheet, buf);
-                self.sheet = &self.sheet[n..];
-                Ok(n)
-            }
-            PlanFile::Step => {
-                let n = copy_front(self.step, buf);
-                self.step = &self.step[n..];
-                Ok(n)
-            }
-            PlanFile::Pairs => {
-                let n = copy_front(self.pairs, buf);
-                self.pairs = &self.pairs[n..];
-                Ok(n)
-            }
+            PlanFile::Sheet => Ok(read_on(&mut self.sheet, buf)),
+            PlanFile::Step => Ok(read_on(&mut self.step, buf)),
+            PlanFile::Pairs => Ok(read_on(&mut self.pairs, buf)),
         }
     }
 
+    #[tactic(auto, using(crate::proofs::Kept::text_printed))]
     fn print(&mut self, bytes: &[u8]) -> Result<(), Infallible> {
         self.page.print(bytes)
     }
 
+    #[tactic(auto, using(crate::proofs::Kept::pair_stored))]
     fn store(&mut self, bytes: &[u8]) -> Result<(), Infallible> {
         self.refused.print(bytes)
     }
+}
+
+/// Reads on in a text until the buffer is full or the text ends: how many bytes came.
+fn read_on(text: &mut &[u8], buf: &mut [u8]) -> usize
+    ensures few { result ≤ length buf.old }
+    ensures less { length text.new.now + result ≤ length text.old.now }
+    ensures came { take result buf.new ≡ take (length buf.old) text.old.now }
+    ensures left { text.new.now ≡ drop (length buf.old) text.old.now }
+{
+    let n = copy_front(text, buf);
+    *text = &text[n..];
+    n
 }
 
 /// Inspects a plan in memory: puts what is printed, and the pairs that are refused, into the front

@@ -21,6 +21,7 @@ use step::lay;
 ///
 /// A fault of the sheet or of the step ends the run with its line. Of the pairs that are not
 /// refused nobody can name a touch that is not printed.
+#[tactic(auto, using(crate::proofs::FileByFile::sheet_unread, crate::proofs::FileByFile::sheet_faulty, crate::proofs::FileByFile::sheet_accepted))]
 pub fn inspect_plan<H: Host<File = PlanFile>>(
     tables: &mut Tables,
     host: &mut H,
@@ -35,6 +36,7 @@ pub fn inspect_plan<H: Host<File = PlanFile>>(
 }
 
 /// The run after the sheet.
+#[tactic(auto, using(crate::proofs::FileByFile::step_unread, crate::proofs::FileByFile::step_faulty, crate::proofs::FileByFile::step_accepted))]
 fn inspect_step<H: Host<File = PlanFile>>(
     draft: Draft,
     tables: &mut Tables,

@@ -35,9 +35,7 @@ impl<F: Filter> Inspection<F> {
     {
         match request {
             Request::SetDepth(depth) => Answer::DepthSet(self.set_depth(depth)),
-            Request::Offer(first, second) => {
-                Answer::Offered(self.offer(points, faces, vf, ee, first, second))
-            }
+            Request::Offer(what) => Answer::Offered(self.offer(points, faces, vf, ee, what)),
             Request::Window(ListKind::Vf, entry) => {
                 Answer::Window(self.window(points, faces, vf, entry))
             }

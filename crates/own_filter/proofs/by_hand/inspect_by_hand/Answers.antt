@@ -1,7 +1,7 @@
 use Rattle.std.proofs.Common.{◌≡◌, ◌↔◌, IsSome, Bool, false, true, List, [], ◌∷◌, Ok, refl, ap, ◌∙◌, subst₂, lit≤}
 use Rattle.motion.specs.declared.shapes.Shape.{Shape}
 use Rattle.inspection.specs.Sheets.{sheet_in}
-use Rattle.inspection.specs.Offerings.{Faces}
+use Rattle.inspection.specs.declared.offerings.Offering.TheVariants.{Faces}
 use Rattle.inspection.specs.Lists.{contents_of}
 use Rattle.inspection.specs.States.{State, state_of, state_at_start}
 use Rattle.inspection.specs.Runs.{Accepted, opened, depth_set, offered, asked}

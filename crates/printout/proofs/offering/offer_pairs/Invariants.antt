@@ -1,16 +1,15 @@
-use Rattle.std.proofs.Common.{◌≡◌, ◌≤◌, ◌++◌, flat_map, Ok}
+use Rattle.std.proofs.Common.{◌≡◌, ◌≤◌, ◌++◌, Ok}
 use Rattle.inspection.specs.PairBytes.{offers_in, offers_left}
 use Rattle.inspection.specs.States.{state_of}
 use Rattle.printout.specs.Progress.{Offers}
-use Rattle.printout.proofs.Requests.{offering_of}
 use Rattle.printout.proofs.offering.offer_pairs.Given as goal
 
 -- the pairs that the iterator has given are offered
-abbrev pub invariant-loop-request : goal.invariant-loop-request
-invariant-loop-request g l = record {
-  going : Offers g.H.Host.does g.H.Host.fails (g.F.Filter.struck l.fn.inspection.filter) l.points l.faces (flat_map offering_of l.yielded)
+abbrev pub invariant-loop-what : goal.invariant-loop-what
+invariant-loop-what g l = record {
+  going : Offers g.H.Host.does g.H.Host.fails (g.F.Filter.struck l.fn.inspection.filter) l.points l.faces l.yielded
       (state_of l.fn.inspection l.fn.vf l.fn.ee) (state_of l.inspection l.vf l.ee) l.fn.host (Ok (tt {0})) l.host;
   filter : l.inspection.filter ≡ l.fn.inspection.filter;
   less : g.H.Host.most l.host ≤ g.H.Host.most l.fn.host;
-  left : offers_in l.pairs ≡ l.yielded ++ offers_left l.request-iterator;
+  left : offers_in l.pairs ≡ l.yielded ++ offers_left l.what-iterator;
 }

@@ -2,8 +2,8 @@ use Rattle.std.proofs.Common.{◌≡◌, ◌⊎◌, inl, inr, ℕ, ◌≤◌, �
 use Rattle.std.proofs.lemmas.Bool.{cases_lt, iff_false}
 use Rattle.std.proofs.lemmas.Result.{err_from_is_err_and}
 use Rattle.inspection.specs.States.{State, state_of}
+use Rattle.inspection.specs.PairBytes.{offers_in}
 use Rattle.printout.specs.Progress.{Offers}
-use Rattle.printout.specs.Walks.{pairs_in}
 use Rattle.printout.proofs.Files.{begun, unread_piece, full_piece, last_piece, piece_in_part}
 use Rattle.printout.proofs.pairs.offer_file.Goals as goal
 
@@ -48,8 +48,8 @@ returns-in_err-offer_pairs-clause-offers g c =
     let size = length l.pairs in
     let few : length chunk ≤ size = omega (arith, length-take c.in_ok-piece.piece.len c.read_piece.new.pairs, c.in_ok-piece.ensures.few) in
     let room : size ≡ 4 * (size / 4) = omega (arith, l.invariant.room, c.requires.whole) in
-    let offers : Offers {X = Unit {0}} does fails set ps fs (pairs_in chunk) t u c.read_piece.new.host (Err e) c.offer_pairs.new.host =
-    subst (λ f. Offers {X = Unit {0}} does fails (g.F.Filter.struck f) ps fs (pairs_in chunk) t u c.read_piece.new.host (Err e) c.offer_pairs.new.host) l.invariant.filter c.in_err-offer_pairs.ensures.offers in
+    let offers : Offers {X = Unit {0}} does fails set ps fs (offers_in chunk) t u c.read_piece.new.host (Err e) c.offer_pairs.new.host =
+    subst (λ f. Offers {X = Unit {0}} does fails (g.F.Filter.struck f) ps fs (offers_in chunk) t u c.read_piece.new.host (Err e) c.offer_pairs.new.host) l.invariant.filter c.in_err-offer_pairs.ensures.offers in
     rw (p.1, p.2)
     (piece_in_part does fails set ps fs s t u c.args.host.now l.host c.read_piece.new.host (size / 4) size chunk room few l.invariant.going c.in_ok-piece.ensures.read c.offer_pairs.new.host e u offers)
 
@@ -69,8 +69,8 @@ returns-then-piece-clause-offers g c =
     let few : length chunk ≤ size = omega (arith, length-take c.in_ok-piece.piece.len c.read_piece.new.pairs, c.in_ok-piece.ensures.few) in
     let room : size ≡ 4 * (size / 4) = omega (arith, l.invariant.room, c.requires.whole) in
     let short : length chunk < size = omega (arith, length-take c.in_ok-piece.piece.len c.read_piece.new.pairs, c.in_ok-piece.ensures.last.0 c.if-piece.true, c.read_piece.auto.pairs) in
-    let offers : Offers does fails set ps fs (pairs_in chunk) t u c.read_piece.new.host (Ok (tt {0})) c.offer_pairs.new.host =
-    subst (λ f. Offers does fails (g.F.Filter.struck f) ps fs (pairs_in chunk) t u c.read_piece.new.host (Ok (tt {0})) c.offer_pairs.new.host) l.invariant.filter c.in_ok-offer_pairs.ensures.offers in
+    let offers : Offers does fails set ps fs (offers_in chunk) t u c.read_piece.new.host (Ok (tt {0})) c.offer_pairs.new.host =
+    subst (λ f. Offers does fails (g.F.Filter.struck f) ps fs (offers_in chunk) t u c.read_piece.new.host (Ok (tt {0})) c.offer_pairs.new.host) l.invariant.filter c.in_ok-offer_pairs.ensures.offers in
     last_piece does fails set ps fs s t u c.args.host.now l.host c.read_piece.new.host (size / 4) size chunk room few l.invariant.going c.in_ok-piece.ensures.read c.offer_pairs.new.host short offers
 
 pub loop-piece-preserved : goal.loop-piece-preserved
@@ -89,8 +89,8 @@ loop-piece-preserved g c =
     let few : length chunk ≤ size = omega (arith, length-take c.in_ok-piece.piece.len c.read_piece.new.pairs, c.in_ok-piece.ensures.few) in
     let room : size ≡ 4 * (size / 4) = omega (arith, l.invariant.room, c.requires.whole) in
     let full : length chunk ≡ size = omega (arith, length-take c.in_ok-piece.piece.len c.read_piece.new.pairs, not_below _ _ (iff_false c.in_ok-piece.ensures.last c.if-piece.false), c.in_ok-piece.ensures.few, c.read_piece.auto.pairs) in
-    let offers : Offers does fails set ps fs (pairs_in chunk) t u c.read_piece.new.host (Ok (tt {0})) c.offer_pairs.new.host =
-    subst (λ f. Offers does fails (g.F.Filter.struck f) ps fs (pairs_in chunk) t u c.read_piece.new.host (Ok (tt {0})) c.offer_pairs.new.host) l.invariant.filter c.in_ok-offer_pairs.ensures.offers in
+    let offers : Offers does fails set ps fs (offers_in chunk) t u c.read_piece.new.host (Ok (tt {0})) c.offer_pairs.new.host =
+    subst (λ f. Offers does fails (g.F.Filter.struck f) ps fs (offers_in chunk) t u c.read_piece.new.host (Ok (tt {0})) c.offer_pairs.new.host) l.invariant.filter c.in_ok-offer_pairs.ensures.offers in
     record {
       going = full_piece does fails set ps fs s t u c.args.host.now l.host c.read_piece.new.host (size / 4) size chunk room few l.invariant.going c.in_ok-piece.ensures.read c.offer_pairs.new.host full offers;
       filter = c.offer_pairs.ensures.filter ∙ l.invariant.filter;
