@@ -7,9 +7,9 @@ use Rattle.sheet.specs.IsSheet.{IsResting}
 use Rattle.sheet.specs.declared.drafts.Draft.{Draft}
 use Rattle.sheet.specs.declared.rows.Face.{Face}
 use Rattle.sheet.specs.declared.rows.Point.{Point}
-use Rattle.step.specs.Frames.{difference_of, ending_at}
+use Rattle.frames.specs.Comparing.{difference_of, ending_at}
 use Rattle.step.specs.Steps.{Ends}
-use Rattle.step.specs.declared.frames.Difference.{Difference}
+use Rattle.frames.specs.declared.comparing.Difference.{Difference}
 
 -- they have as many points
 pub same_count : (d e : Draft) (fs gs : List Face) → difference_of d fs e gs ≡ None → d.points ≡ e.points

@@ -7,9 +7,9 @@ use Rattle.sheet.specs.declared.drafts.Draft.{Draft}
 use Rattle.sheet.specs.declared.notices.Notice.{Notice}
 use Rattle.sheet.specs.declared.rows.Face.{Face}
 use Rattle.sheet.specs.declared.rows.Point.{Point}
-use Rattle.step.specs.Frames.{difference_of, ending_at}
+use Rattle.frames.specs.Comparing.{difference_of, ending_at}
 use Rattle.step.specs.Steps.{Step}
-use Rattle.step.specs.declared.frames.Difference.{Difference}
+use Rattle.frames.specs.declared.comparing.Difference.{Difference}
 use Rattle.frames.specs.Frames.{Frames, frame_fault, points_of, faces_of, difference_between, step_between}
 use Rattle.frames.specs.Outcomes.{unless_faulty, unless_different, recorded, needed, files_after}
 use Rattle.frames.specs.Reading.{IsFrame}

@@ -1,3 +1,4 @@
+pub mod FrameLaws
 pub mod Between
 pub mod Steps
 pub mod Texts

@@ -6,8 +6,8 @@ use Rattle.sheet.specs.Sheet.{point_limit, face_limit, sheet_checks, draft_of, p
 use Rattle.sheet.specs.declared.notices.Notice.{Notice}
 use Rattle.sheet.specs.declared.rows.Face.{Face}
 use Rattle.sheet.specs.declared.rows.Point.{Point}
-use Rattle.step.specs.Frames.{difference_of, ending_at}
-use Rattle.step.specs.declared.frames.Difference.{Difference}
+use Rattle.frames.specs.Comparing.{difference_of, ending_at}
+use Rattle.frames.specs.declared.comparing.Difference.{Difference}
 use Rattle.frames.specs.declared.frame_files.FrameFile.{FrameFile}
 use Rattle.frames.specs.declared.frame_files.FrameFile.TheVariants.{Start, End}
 

@@ -1,3 +1,4 @@
+pub mod Comparing
 pub mod Frames
 pub mod Lines
 pub mod Memory

@@ -1,7 +1,7 @@
 -- The lines that tell what comes of two frames.
 use Rattle.std.specs.Prelude.{ℕ, List, ◌++◌, codes, decimal}
-use Rattle.step.specs.declared.frames.Difference.{Difference}
-use Rattle.step.specs.declared.frames.Difference.TheVariants.{Points, Faces, Face}
+use Rattle.frames.specs.declared.comparing.Difference.{Difference}
+use Rattle.frames.specs.declared.comparing.Difference.TheVariants.{Points, Faces, Face}
 
 abbrev pub counts_line : ℕ → ℕ → List ℕ → List ℕ
 counts_line a b things =

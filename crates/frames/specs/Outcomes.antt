@@ -6,9 +6,9 @@ use Rattle.sheet.specs.declared.notices.Notice.{Notice}
 use Rattle.sheet.specs.declared.drafts.Draft.{Draft}
 use Rattle.sheet.specs.declared.rows.Face.{Face}
 use Rattle.sheet.specs.declared.rows.Point.{Point}
-use Rattle.step.specs.Frames.{difference_of, ending_at, moving_in}
+use Rattle.frames.specs.Comparing.{difference_of, ending_at, moving_in}
 use Rattle.step.specs.Record.{record_of}
-use Rattle.step.specs.declared.frames.Difference.{Difference}
+use Rattle.frames.specs.declared.comparing.Difference.{Difference}
 use Rattle.frames.specs.Frames.{Frames, frame_fault, difference_between, step_between}
 use Rattle.frames.specs.Lines.{difference_line, step_line}
 use Rattle.frames.specs.declared.frame_files.FrameFile.{FrameFile}

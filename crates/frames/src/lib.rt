@@ -2,6 +2,7 @@
 //! between them is stored and told.
 #![tactic(auto)]
 
+mod comparing;
 mod frame_files;
 mod lines;
 mod memory;
@@ -10,6 +11,7 @@ mod recording;
 mod tables;
 mod telling;
 
+pub use comparing::{Difference, compare_frames, end_at, moving};
 pub use frame_files::{FrameFile, Recording};
 pub use memory::{Recorded, record_frames};
 pub use recording::record_step;

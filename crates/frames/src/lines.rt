@@ -1,12 +1,12 @@
 // The lines that tell what comes of two frames.
 ghost use Rattle.std.specs.Prelude.{◌≡◌, ◌≤◌, ◌++◌, length, codes, decimal};
-ghost use Rattle.step.specs.Frames.{moving_in};
+ghost use Rattle.frames.specs.Comparing.{moving_in};
 ghost use Rattle.frames.specs.Lines.{counts_line, difference_line, step_line};
 
+use crate::comparing::{Difference, moving};
 use arrayvec::ArrayString;
 use itoa::Buffer;
 use sheet::{Draft, Point};
-use step::{Difference, moving};
 
 /// The longest line: its words, a number of five digits and two of twenty.
 pub(crate) type Line = ArrayString<73>;

@@ -7,6 +7,7 @@ ghost use Rattle.step.specs.Record.{record_of};
 ghost use Rattle.frames.specs.Outcomes.{outcome_between, recorded, writes_of};
 ghost use Rattle.frames.specs.Works.{Records};
 
+use crate::comparing::{compare_frames, end_at};
 use crate::frame_files::{FrameFile, Recording};
 use crate::lines::{difference_line, step_line};
 use crate::reading::read_frame;
@@ -14,7 +15,7 @@ use crate::tables::Tables;
 use crate::telling::{tell, tell_fault};
 use hosts::Host;
 use sheet::{Draft, Face, Point};
-use step::{compare_frames, end_at, write};
+use step::write;
 
 /// Reads two frames and records the step between them: stores its record, and prints the line that
 /// tells it. Where a frame has a fault, or they differ, it prints the line that tells this instead.

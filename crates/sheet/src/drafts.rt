@@ -1,5 +1,8 @@
 // A draft: a sheet that stands in the caller's tables and is not being inspected.
 ghost use Rattle.std.specs.Prelude.{◌≡◌};
+ghost use Rattle.sheet.specs.Drafts.{SheetCounts};
+
+use std::marker::Model;
 
 /// How many of the first rows of the caller's tables are a sheet's points and faces.
 ///
@@ -8,6 +11,12 @@ ghost use Rattle.std.specs.Prelude.{◌≡◌};
 pub struct Draft {
     points: u16,
     faces: u16,
+}
+
+impl Model for Draft {
+    ghost Value = { SheetCounts };
+
+    ghost view = { λ d. record { points = d.points; faces = d.faces } };
 }
 
 impl Draft {

@@ -1,7 +1,6 @@
 pub mod CountedLaws
 pub mod FieldLaws
 pub mod FirstField
-pub mod FrameLaws
 pub mod Fronts
 pub mod LayAnswers
 pub mod LongestRecord

@@ -1,5 +1,4 @@
 pub mod Faults
-pub mod Frames
 pub mod Laying
 pub mod Limit
 pub mod Record

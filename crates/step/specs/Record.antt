@@ -1,5 +1,5 @@
 -- Which bytes are the record of a row of points.
-use Rattle.std.specs.Prelude.{ℕ, ◌+◌, ◌/◌, ◌%◌, Bool, if◌then◌else◌, List, [], ◌∷◌, ◌++◌, ℤ, ◌-ℤ◌, ◌==◌}
+use Rattle.std.specs.Prelude.{ℕ, ◌+◌, ◌/◌, ◌%◌, Bool, if◌then◌else◌, not, List, [], ◌∷◌, ◌++◌, ℤ, ◌-ℤ◌, ◌==◌}
 use Rattle.std.proofs.Common.{of_z}
 use Rattle.std.specs.Int.{w16}
 use Rattle.std.specs.List.{flat_map}
@@ -36,6 +36,10 @@ bit_of z k = if is_zero z then 0 else k
 
 abbrev pub map_byte : Coords → ℕ
 map_byte m = bit_of m.x 1 + bit_of m.y 2 + bit_of m.z 4
+
+-- a point moves
+abbrev pub is_moving : Point → Bool
+is_moving p = not (map_byte (moves_of p) == 0)
 
 -- the map byte, then the fields of x, y and z
 abbrev pub moves_record : Coords → List ℕ

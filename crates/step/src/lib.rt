@@ -3,12 +3,10 @@
 
 mod faults;
 mod fields;
-mod frames;
 mod laying;
 mod rows;
 mod writing;
 
 pub use faults::{At, StepFault, WriterFault};
-pub use frames::{Difference, compare_frames, end_at, moving};
 pub use laying::lay;
-pub use writing::{record_limit, write};
+pub use writing::{is_moving, record_limit, write};

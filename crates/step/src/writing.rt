@@ -6,7 +6,7 @@ ghost use Rattle.sheet.specs.Counted.{in_range};
 ghost use Rattle.sheet.specs.Sheet.{onto_front, point_limit};
 ghost use Rattle.step.specs.Faults.{notice_of_writer};
 ghost use Rattle.step.specs.Limit.{Longest, record_limit};
-ghost use Rattle.step.specs.Record.{move_of, moves_of, bit_of, map_byte, field_of, point_record, record_of};
+ghost use Rattle.step.specs.Record.{move_of, moves_of, bit_of, map_byte, is_moving, field_of, point_record, record_of};
 ghost use Rattle.step.specs.Steps.{Step, as_counted};
 ghost use Rattle.step.specs.Writing.{write_checks};
 
@@ -104,8 +104,15 @@ fn push_field(bytes: &mut ArrayVec<u8, 7>, by: i16)
     bytes.push(high);
 }
 
+/// Whether a point moves.
+pub fn is_moving(point: Point) -> bool
+    ensures { result ≡ is_moving point }
+{
+    map_of(moves(point)) != 0
+}
+
 /// The map byte: a bit for each axis on which a point moves.
-pub(crate) fn map_of(moves: Coords) -> u8
+fn map_of(moves: Coords) -> u8
     ensures { result ≡ map_byte moves }
 {
     bit(moves.x, 1) + bit(moves.y, 2) + bit(moves.z, 4)
@@ -119,7 +126,7 @@ fn bit(by: i16, weight: u8) -> u8
 }
 
 /// How far a point goes on each axis.
-pub(crate) fn moves(point: Point) -> Coords
+fn moves(point: Point) -> Coords
     ensures { result ≡ moves_of point }
 {
     let x = move_of(point.start.x, point.end.x);

@@ -4,8 +4,6 @@
 #[cfg(test)]
 mod drafts;
 #[cfg(test)]
-mod frames;
-#[cfg(test)]
 mod laying;
 #[cfg(test)]
 mod refused;

@@ -4,9 +4,9 @@ use Rattle.std.specs.List.{position, zip, count_by}
 use Rattle.sheet.specs.declared.drafts.Draft.{Draft}
 use Rattle.sheet.specs.declared.rows.Face.{Face}
 use Rattle.sheet.specs.declared.rows.Point.{Point}
-use Rattle.step.specs.Record.{moves_of, map_byte}
-use Rattle.step.specs.declared.frames.Difference.{Difference}
-use Rattle.step.specs.declared.frames.Difference.TheVariants as difference
+use Rattle.step.specs.Record.{is_moving}
+use Rattle.frames.specs.declared.comparing.Difference.{Difference}
+use Rattle.frames.specs.declared.comparing.Difference.TheVariants as difference
 
 abbrev pub same_face : Face → Face → Bool
 same_face f g = f.a == g.a && (f.b == g.b && f.c == g.c)
@@ -34,10 +34,6 @@ ending_at [] qs = []
 ending_at (p ∷ ps) [] = p ∷ ps
 ending_at (p ∷ ps) (q ∷ qs) = toward p q ∷ ending_at ps qs
 
--- a point moves
-abbrev pub moves : Point → Bool
-moves p = not (map_byte (moves_of p) == 0)
-
 -- how many points move
 abbrev pub moving_in : List Point → ℕ
-moving_in ps = count_by moves ps
+moving_in ps = count_by is_moving ps

@@ -1,6 +1,6 @@
 use Rattle.std.proofs.Common.{◌≡◌, ◌++◌, take, drop}
-use Rattle.step.specs.Frames.{ending_at}
-use Rattle.step.proofs.frames.end_at.Given as goal
+use Rattle.frames.specs.Comparing.{ending_at}
+use Rattle.frames.proofs.comparing.end_at.Given as goal
 
 -- the front of the table is done
 abbrev pub invariant-loop-i : goal.invariant-loop-i

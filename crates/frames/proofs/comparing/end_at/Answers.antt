@@ -1,6 +1,6 @@
 use Rattle.std.proofs.Common.{arith}
-use Rattle.step.proofs.FrameLaws.{ending_more, ending_all}
-use Rattle.step.proofs.frames.end_at.Goals as goal
+use Rattle.frames.proofs.FrameLaws.{ending_more, ending_all}
+use Rattle.frames.proofs.comparing.end_at.Goals as goal
 
 pub loop-i-preserved : goal.loop-i-preserved
 loop-i-preserved c =

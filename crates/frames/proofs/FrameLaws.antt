@@ -3,7 +3,7 @@ use Rattle.std.proofs.Common.{◌≡◌, ℕ, ◌+◌, ◌<◌, ◌≤◌, min, 
 use Rattle.std.proofs.lemmas.List.{at_drop_more, at_drop_all, take_all, take_more_set, drop-set-lt, append_assoc, append-nil, take-append-drop}
 use Rattle.std.proofs.lemmas.Bool.{cases_lt}
 use Rattle.sheet.specs.declared.rows.Point.{Point}
-use Rattle.step.specs.Frames.{toward, ending_at}
+use Rattle.frames.specs.Comparing.{toward, ending_at}
 
 -- row i gets its end
 pub ending_more : (ps fs : List Point) (i : ℕ) (d e q : Point) (ends : List Point) → i < length ps → i < length fs → q ≡ toward (get_or ps i d) (get_or fs i e) → take i ps ++ ending_at (drop i ps) (drop i fs) ≡ ends → take (i + 1) (set ps i q) ++ ending_at (drop (i + 1) (set ps i q)) (drop (i + 1) fs) ≡ ends

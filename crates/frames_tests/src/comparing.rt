@@ -1,10 +1,13 @@
 // How two frames differ, and how many points move.
-use crate::drafts::{at, draft_of};
+use frames::{Difference, compare_frames, end_at, moving};
 use sheet::{Coords, Draft, Face, Point, read_sheet};
 use std::test::Fail;
-use step::{Difference, compare_frames, end_at, moving};
 
 const NO_FACE: Face = Face { a: 9, b: 9, c: 9 };
+
+fn at(x: i16, y: i16, z: i16) -> Coords {
+    Coords { x, y, z }
+}
 
 fn read(text: &str, faces: &mut [Face]) -> Result<Draft, Fail> {
     let row = Point {
@@ -65,9 +68,11 @@ fn ends_and_moves(rt: HostRuntime) -> Result<(), Fail> {
         start: at(5000, 0, 0),
         end: at(4096, 0, 0),
     };
+    let one = read("v 0 0 0\n", &mut [])?;
+    let three = read("v 0 0 0\nv 0 0 0\nv 0 0 0\n", &mut [])?;
     let mut points = [a, b, c];
-    assert_eq!(rt; moving(&draft_of(3)?, &points), 2);
-    assert_eq!(rt; moving(&draft_of(1)?, &points), 1);
+    assert_eq!(rt; moving(&three, &points), 2);
+    assert_eq!(rt; moving(&one, &points), 1);
     end_at(&mut points, &[b, b]);
     assert_eq!(rt;
         points[0],
@@ -84,7 +89,7 @@ fn ends_and_moves(rt: HostRuntime) -> Result<(), Fail> {
         }
     );
     assert_eq!(rt; points[2], c);
-    assert_eq!(rt; moving(&draft_of(3)?, &points), 1);
-    assert_eq!(rt; moving(&draft_of(3)?, &points[0..1]), 1);
+    assert_eq!(rt; moving(&three, &points), 1);
+    assert_eq!(rt; moving(&three, &points[0..1]), 1);
     Ok(())
 }

@@ -1,9 +1,9 @@
 // Two frames of one sheet: how they differ, and the step between them.
 ghost use Rattle.std.specs.Prelude.{◌≡◌, ◌≤◌, length, take};
-ghost use Rattle.step.specs.Frames.{same_face, first_other, difference_of, toward, ending_at, moves, moving_in};
+ghost use Rattle.frames.specs.Comparing.{same_face, first_other, difference_of, toward, ending_at, moving_in};
 
-use crate::writing;
 use sheet::{Draft, Face, Point};
+use step::is_moving;
 
 /// How two frames differ: in their numbers of points, in their numbers of faces, or in a face.
 #[derive(Clone, Copy, Debug, PartialEq, Eq)]
@@ -83,12 +83,6 @@ pub fn moving(draft: &Draft, points: &[Point]) -> usize
 {
     front(points, draft.points())
         .iter()
-        .filter(|point| moves(**point))
+        .filter(|point| is_moving(**point))
         .count()
-}
-
-fn moves(point: Point) -> bool
-    ensures { result ≡ moves point }
-{
-    writing::map_of(writing::moves(point)) != 0
 }
