@@ -139,6 +139,7 @@ module _ {S E : Type 0} (does : S → Event PlanFile → S → Type 0) (fails : 
 
   -- a piece can't be read
   pub unread_piece : (X : Type 0) (s t u : State) (h i j : S) (e : E) → Going s t h i → fails i (Reading Pairs) e j → OffersFile {X = X} does fails set ps fs s u h (Err e) j
+  unfolding OffersFile
   unread_piece X s t u h i j e going f d sheet w m =
       let a = going d sheet w m in
       let told = a.good.0 in
@@ -238,7 +239,7 @@ module _ {S E : Type 0} (does : S → Event PlanFile → S → Type 0) (fails : 
 
     -- it was short: that is the end
     pub last_piece : (k : S) → length chunk < size → Offers {X = Unit {0}} does fails set ps fs (offers_in chunk) t u j (Ok tt) k → OffersFile {X = Unit {0}} does fails set ps fs s u h (Ok tt) k
-    unfolding Offers
+    unfolding Offers OffersFile
     last_piece k short offers d sheet w made =
         let a = going d sheet w made in
         let v = walked set sheet w (pairs_came a.events) in
@@ -265,7 +266,7 @@ module _ {S E : Type 0} (does : S → Event PlanFile → S → Type 0) (fails : 
 
     -- a call fails while its pairs are offered
     pub piece_in_part : (k : S) (e : E) (z : State) → Offers {X = Unit {0}} does fails set ps fs (offers_in chunk) t u j (Err e) k → OffersFile {X = Unit {0}} does fails set ps fs s z h (Err e) k
-    unfolding Offers
+    unfolding Offers OffersFile
     piece_in_part k e z offers d sheet w made =
         let a = going d sheet w made in
         let v = walked set sheet w (pairs_came a.events) in

@@ -27,10 +27,8 @@ use Rattle.inspection.specs.States.{State, Core, with_counts}
 use Rattle.inspection.specs.Tests.{corners_below, corners_inside, vf_naming, ee_naming}
 use Rattle.hosts.specs.Events.{Event, Call}
 use Rattle.hosts.specs.Traces.{nothing}
-use Rattle.hosts.specs.Works.{Worked}
-use Rattle.printout.specs.Printouts.{notice_line}
 use Rattle.printout.specs.Progress.{Made, Refuses, Offers}
-use Rattle.printout.specs.Walks.{Walk, places, pair_bytes, is_full, refusal, found_after, vf_after, ee_after, sorted_in, offered, walked}
+use Rattle.printout.specs.Walks.{Walk, places, is_full, refusal, found_after, vf_after, ee_after, sorted_in, offered}
 use Rattle.printout.specs.declared.plan_files.PlanFile.{PlanFile}
 use Rattle.printout.proofs.Telling.{tells_none, tells_one, tells_part_of_one}
 

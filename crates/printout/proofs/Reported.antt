@@ -28,11 +28,11 @@ use Rattle.inspection.specs.States.{State, Core, core_at_start}
 use Rattle.inspection.specs.Tests.{Naming, vf_naming, ee_naming}
 use Rattle.inspection.specs.PairBytes.{offers_in}
 use Rattle.report.specs.Faults.{place_of}
-use Rattle.report.specs.Reports.{View, check, AllInside, checks_from, entry_checks, entry_limit, len_checks, numbered, report_text}
+use Rattle.report.specs.Reports.{View, check, checks_from, entry_checks, entry_limit, len_checks, numbered, report_text}
 use Rattle.printout.specs.Outcomes.{same_file, StopsWith}
 use Rattle.printout.specs.Phases.{FitsFile, HoldsPlan, PairsRan}
 use Rattle.printout.specs.Plans.{Plan, printout, printout_by, sheet, draft, walk, report_of, state_found}
-use Rattle.printout.specs.Progress.{Made, pairs_came, ReadsPairs, TellsFileInPart, OffersFile}
+use Rattle.printout.specs.Progress.{Made, Begins, Reportable, pairs_came, ReadsPairs, TellsFileInPart, OffersFile}
 use Rattle.printout.specs.Walks.{Walk, Found, depth, places, just_opened, offered, walked, refusal_lines, refused_pairs}
 use Rattle.printout.specs.declared.endings.Ending.{Ending}
 use Rattle.printout.specs.declared.endings.Ending.TheVariants.{Complete}
@@ -50,8 +50,9 @@ no_stray n l v i (e ∷ es) all =
     ap (λ b. if b then Some (check b 19 i (place_of l)).tells else first_fit (checks_from n l v (i + 1) es)) (inside_not (n.inside v.sheet e) (All-head (λ x. IsTrue (n.inside v.sheet x)) e es all))
     ∙ no_stray n l v (i + 1) es (All-tail (λ x. IsTrue (n.inside v.sheet x)) e es all)
 
-pub no_faults : (v : View) (vf : List VfName) (ee : List EeName) → IsFalse v.lacks_rows → AllInside vf_naming v vf → AllInside ee_naming v ee → None ≡ first_fit (len_checks v vf ee)
-no_faults v vf ee rows vfs ees =
+pub no_faults : (v : View) (vf : List VfName) (ee : List EeName) → Reportable v vf ee → None ≡ first_fit (len_checks v vf ee)
+unfolding Reportable
+no_faults v vf ee (rows, (vfs, ees)) =
     let first = no_stray vf_naming Vf v 0 (numbered vf) (All-take (λ e. IsTrue (vf_naming.inside v.sheet e)) entry_limit vf vfs) in
     let second = no_stray ee_naming Ee v 0 (numbered ee) (All-take (λ e. IsTrue (ee_naming.inside v.sheet e)) entry_limit ee ees) in
     sym (ap (λ b. if b then Some (check b 16 0 0).tells else first_fit (entry_checks vf_naming Vf v vf ++ entry_checks ee_naming Ee v ee)) rows
@@ -74,9 +75,9 @@ claim_found set d s h f t core vf ee c =
 
 module _ (d : Draft) (ps : List Point) (fs : List Face) where
   -- ---- an inspection that is just opened has made no step of the walk
-  pub made_none : (s : State) → IsFalse (lacks_rows d ps fs) → Opened d s → s.core ≡ core_at_start d depth → length s.vf.rest ≡ places → length s.ee.rest ≡ places
+  none_made : (s : State) → IsFalse (lacks_rows d ps fs) → Opened d s → s.core ≡ core_at_start d depth → length s.vf.rest ≡ places → length s.ee.rest ≡ places
       → Made delivered d ps fs (sheet_in d ps fs) (just_opened d) s
-  made_none s rows o core vf ee =
+  none_made s rows o core vf ee =
       record {
         rows = rows;
         tables = refl;
@@ -156,6 +157,10 @@ module _ (d : Draft) (ps : List Point) (fs : List Face) where
           (λ i. report_text (is i) t.vf.entries t.ee.entries)
           ∙ (λ i. report_text (record { set = delivered; core = m.core i; sheet = h.sheet i; lacks_rows = m.rows i }) (m.vf i) (m.ee i))
 
+pub made_none : (d : Draft) (s : State) → Opened d s → s.core ≡ core_at_start d depth → length s.vf.rest ≡ places → length s.ee.rest ≡ places → Begins d s
+unfolding Begins
+made_none d s o core vf ee ps fs rows = none_made d ps fs s rows o core vf ee
+
 -- ---- an inspection that has made a walk can be reported
 module _ (d : Draft) (ps : List Point) (fs : List Face) (w : Walk) (t : State) (m : Made delivered d ps fs (sheet_in d ps fs) w t) where
   pub same_draft : t.core.draft ≡ d
@@ -182,6 +187,7 @@ module _ {S E : Type 0} (does : S → Event PlanFile → S → Type 0) (fails : 
     (s t : State) (start : Made delivered d ps fs (sheet_in d ps fs) (just_opened d) s) (h m : S) where
   -- a call fails while pairs are offered
   pub stopped_offering : (X : Type 0) (e : E) → OffersFile {X = X} does fails delivered ps fs s t h (Err e) m → PairsRan does fails d ps fs h (Err e) m
+  unfolding OffersFile
   stopped_offering X e offers =
       let a = offers d (sheet_in d ps fs) (just_opened d) start in
       record {
@@ -196,10 +202,12 @@ module _ {S E : Type 0} (does : S → Event PlanFile → S → Type 0) (fails : 
   module _ (X : Type 0) (x : X) (offers : OffersFile {X = X} does fails delivered ps fs s t h (Ok x) m) where
     -- so far the inspection has made the walk over the pairs that came
     pub made_walk : (w : Walk) × Made delivered d ps fs (sheet_in d ps fs) w t
+    unfolding OffersFile
     made_walk = let a = offers d (sheet_in d ps fs) (just_opened d) start in (walked delivered (sheet_in d ps fs) (just_opened d) (pairs_came a.events), a.good.1)
 
     pub reported : (r : Result Ending E) (view : View) (k : S) → view ≡ record { set = delivered; core = t.core; sheet = sheet_in d ps fs; lacks_rows = lacks_rows d ps fs }
         → Prints does fails (report_text view t.vf.entries t.ee.entries) m r k → IfOk r (λ end. end ≡ Complete) → OnOk r (Findings delivered t) → PairsRan does fails d ps fs h r k
+    unfolding OffersFile
     reported (Ok end) view k is print complete found =
         let a = offers d (sheet_in d ps fs) (just_opened d) start in
         let es = a.events in
@@ -278,3 +286,29 @@ module _ {S E : Type 0} (does : S → Event PlanFile → S → Type 0) (fails : 
       where
         printing_reading : (g : PlanFile) → Printing ≡ Reading g → ⊥
         printing_reading g c = cc
+
+-- ---- from its opening on
+module _ {S E : Type 0} (does : S → Event PlanFile → S → Type 0) (fails : S → Call PlanFile → E → S → Type 0) (d : Draft) (ps : List Point) (fs : List Face)
+    (s t : State) (h m : S) (begun : Begins d s) (points : d.points ≤ length ps) (faces : d.faces ≤ length fs) where
+  start : Made delivered d ps fs (sheet_in d ps fs) (just_opened d) s
+  unfolding Begins
+  start = begun ps fs (rows_there d ps fs points faces)
+
+  pub ran_in_part : (e : E) (r : Result Ending E) → OffersFile {X = Unit {0}} does fails delivered ps fs s t h (Err e) m → r ≡ Err e → PairsRan does fails d ps fs h r m
+  ran_in_part e r offers is = subst (λ r. PairsRan does fails d ps fs h r m) (sym is) (stopped_offering does fails d ps fs s t start h m (Unit {0}) e offers)
+
+  module _ (offers : OffersFile {X = Unit {0}} does fails delivered ps fs s t h (Ok tt) m) where
+    walk_made : (w : Walk) × Made delivered d ps fs (sheet_in d ps fs) w t
+    walk_made = made_walk does fails d ps fs s t start h m (Unit {0}) tt offers
+
+    pub reportable : Reportable (record { set = delivered; core = t.core; sheet = sheet_in t.core.draft ps fs; lacks_rows = lacks_rows t.core.draft ps fs }) t.vf.entries t.ee.entries
+    unfolding Reportable
+    reportable = (rows_stand d ps fs walk_made.0 t walk_made.1, (vf_listed d ps fs walk_made.0 t walk_made.1, ee_listed d ps fs walk_made.0 t walk_made.1))
+
+    pub ran : (r : Result Ending E) (k : S)
+        → Prints does fails (report_text (record { set = delivered; core = t.core; sheet = sheet_in t.core.draft ps fs; lacks_rows = lacks_rows t.core.draft ps fs }) t.vf.entries t.ee.entries) m r k
+        → IfOk r (λ end. end ≡ Complete) → OnOk r (Findings delivered t) → PairsRan does fails d ps fs h r k
+    ran r k printed complete found =
+        let draft = same_draft d ps fs walk_made.0 t walk_made.1 in
+        reported does fails d ps fs s t start h m (Unit {0}) tt offers r (record { set = delivered; core = t.core; sheet = sheet_in t.core.draft ps fs; lacks_rows = lacks_rows t.core.draft ps fs }) k
+        (λ i. record { set = delivered; core = t.core; sheet = sheet_in (draft i) ps fs; lacks_rows = lacks_rows (draft i) ps fs }) printed complete found

@@ -1,9 +1,9 @@
 -- What is told of a walk, pair by pair.
-use Rattle.std.proofs.Common.{◌≡◌, ℕ, Bool, List, [], ◌∷◌, ◌++◌, Some, None, Option, Ok, Err, Result, MatchResult, refl, sym, ap, ◌∙◌, subst, append_assoc, append-nil}
+use Rattle.std.proofs.Common.{◌≡◌, Bool, List, [], ◌∷◌, ◌++◌, Some, None, Option, Ok, Err, Result, MatchResult, refl, sym, ap, ◌∙◌, subst, append_assoc, append-nil}
 use Rattle.std.proofs.lemmas.List.Concat.{flat_map-append}
 use Rattle.hosts.specs.Events.{Event, Stored, Call, Storing, printed, stored, files_read, unread, printed_by, stored_by, file_read_by}
 use Rattle.hosts.specs.Traces.{next, CutOff}
-use Rattle.hosts.specs.Works.{Worked, Stopped, IsFront, IsPrintedInPart, Prints}
+use Rattle.hosts.specs.Works.{Stopped, IsFront, IsPrintedInPart, Prints}
 use Rattle.hosts.proofs.Fronts.{whole, front_of, front_of_front, front_behind}
 use Rattle.hosts.proofs.Histories.{prints_store_nothing, prints_read_nothing}
 use Rattle.sheet.specs.declared.notices.Notice.{Notice}

@@ -7,16 +7,20 @@ use Rattle.sheet.specs.declared.notices.Notice.{Notice}
 use Rattle.sheet.specs.declared.rows.Point.{Point}
 use Rattle.sheet.specs.declared.rows.Face.{Face}
 use Rattle.motion.specs.declared.shapes.Shape.{Shape}
+use Rattle.motion.specs.Rows.{delivered}
 use Rattle.inspection.specs.Offers.{lacks_rows}
 use Rattle.inspection.specs.declared.offerings.Offering.{Offering}
 use Rattle.inspection.specs.Runs.{Run}
 use Rattle.inspection.specs.Sheets.{Sheet, sheet_in}
 use Rattle.inspection.specs.States.{State}
-use Rattle.inspection.specs.Tests.{vf_inside, ee_inside}
+use Rattle.inspection.specs.Tests.{vf_inside, ee_inside, vf_naming, ee_naming}
 use Rattle.inspection.specs.PairBytes.{offers_in}
+use Rattle.inspection.specs.declared.names.VfName.{VfName}
+use Rattle.inspection.specs.declared.names.EeName.{EeName}
+use Rattle.report.specs.Reports.{View, AllInside}
 use Rattle.printout.specs.Outcomes.{same_file}
 use Rattle.printout.specs.Printouts.{notice_line}
-use Rattle.printout.specs.Walks.{Walk, places, pair_bytes, walked, refusal_lines, refused_pairs}
+use Rattle.printout.specs.Walks.{Walk, places, pair_bytes, just_opened, walked, refusal_lines, refused_pairs}
 use Rattle.printout.specs.declared.plan_files.PlanFile.{PlanFile}
 use Rattle.printout.specs.declared.plan_files.PlanFile.TheVariants.{Pairs}
 
@@ -36,6 +40,16 @@ pub record Made
   -- what is listed has numbers of the sheet
   pub vf_inside : All (λ e. IsTrue (vf_inside sheet e)) w.found.vf
   pub ee_inside : All (λ e. IsTrue (ee_inside sheet e)) w.found.ee
+
+-- an inspection in the state s is just opened: over any tables of the draft's rows
+unfoldable pub Begins : Draft → State → Type 0
+Begins d s =
+    (ps : List Point) (fs : List Face) → IsFalse (lacks_rows d ps fs)
+    → Made delivered d ps fs (sheet_in d ps fs) (just_opened d) s
+
+-- no check of a report fits: its tables are there, and what is listed is of the sheet
+unfoldable pub Reportable : View → List VfName → List EeName → Type 0
+Reportable v vf ee = IsFalse v.lacks_rows × (AllInside vf_naming v vf × AllInside ee_naming v ee)
 
 -- ---- what comes to the walk from w to v is told, or a front of it; no file is read
 pub record Tells (w v : Walk) (es : List (Event PlanFile)) : Type 0 where
@@ -108,7 +122,7 @@ pub record TellsFileInPart (w v : Walk) (es : List (Event PlanFile)) (call : Cal
   pub told : (f : PlanFile) → call ≡ Reading f → refusal_lines v ≡ refusal_lines w ++ printed es
 
 module _ {S E X : Type 0} (does : S → Event PlanFile → S → Type 0) (fails : S → Call PlanFile → E → S → Type 0) where
-  abbrev pub OffersFile : (Shape → Bool) → List Point → List Face → State → State → S → Result X E → S → Type 0
+  unfoldable pub OffersFile : (Shape → Bool) → List Point → List Face → State → State → S → Result X E → S → Type 0
   OffersFile set ps fs s t h r h' =
       (d : Draft) (sheet : Sheet) (w : Walk) → Made set d ps fs sheet w s
       → Worked does fails

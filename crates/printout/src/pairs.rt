@@ -1,19 +1,15 @@
 // Offering the pairs of a plan's file.
-ghost use Rattle.std.specs.Prelude.{◌≡◌, ◌↔◌, ◌+◌, ◌<◌, ◌≤◌, ◌%◌, IsTrue, IsFalse, List as Seq, length, take, IfOk, OnOk, MatchResult};
+ghost use Rattle.std.specs.Prelude.{◌≡◌, ◌↔◌, ◌+◌, ◌<◌, ◌≤◌, ◌%◌, IsTrue, length, take, IfOk, OnOk, MatchResult};
 ghost use Rattle.sheet.specs.Sheet.{point_limit, face_limit};
 ghost use Rattle.hosts.specs.Events.{Read, Reading};
 ghost use Rattle.hosts.specs.Works.{Prints};
-ghost use Rattle.motion.specs.Rows.{delivered};
 ghost use Rattle.inspection.specs.Claims.{Findings};
 ghost use Rattle.inspection.specs.Lists.{contents_of, entries, without_entries};
-ghost use Rattle.inspection.specs.Offers.{lacks_rows};
-ghost use Rattle.inspection.specs.Sheets.{sheet_in};
 ghost use Rattle.inspection.specs.States.{state_of};
-ghost use Rattle.inspection.specs.Tests.{vf_naming, ee_naming};
-ghost use Rattle.report.specs.Reports.{view_of, AllInside, report_text};
+ghost use Rattle.report.specs.Reports.{view_of, report_text};
 ghost use Rattle.printout.specs.Phases.{PairsRan};
-ghost use Rattle.printout.specs.Progress.{Made, OffersFile};
-ghost use Rattle.printout.specs.Walks.{places, just_opened};
+ghost use Rattle.printout.specs.Progress.{Begins, OffersFile, Reportable};
+ghost use Rattle.printout.specs.Walks.{places};
 ghost use Rattle.printout.specs.declared.endings.Ending.TheVariants.{Complete};
 ghost use Rattle.printout.specs.declared.plan_files.PlanFile.TheVariants.{Pairs};
 
@@ -85,6 +81,7 @@ fn read_piece<H: Host<File = PlanFile>>(pairs: &mut [u8], host: &mut H) -> Resul
 }
 
 /// The run after the step: the pairs are offered in their order, and then the report is printed.
+#[tactic(auto, using(crate::proofs::Reported::ran_in_part, crate::proofs::Reported::reportable, crate::proofs::Reported::ran))]
 pub(crate) fn inspect_pairs<H: Host<File = PlanFile>>(
     draft: Draft,
     tables: &mut Tables,
@@ -123,9 +120,7 @@ fn open_plan(
 ) -> Inspection<Delivered>
     requires vf { length (without_entries (contents_of vf.old)).rest ≡ places }
     requires ee { length (without_entries (contents_of ee.old)).rest ≡ places }
-    ensures { (ps : Seq Point) (fs : Seq Face) → IsFalse (lacks_rows draft ps fs)
-        → Made delivered draft ps fs (sheet_in draft ps fs) (just_opened draft)
-        (state_of result vf.new ee.new) }
+    ensures { Begins draft (state_of result vf.new ee.new) }
 {
     let Ok(inspection) = Inspection::open(draft, delivered_filter(), DEPTH, vf, ee) else {
         unreachable!()
@@ -142,12 +137,8 @@ fn print_found<F: Filter, H: Host<File = PlanFile>>(
     ee: &List<'_, EeName>,
     host: &mut H,
 ) -> Result<Ending, H::Error>
-    requires rows { let v = view_of F.Filter.struck inspection.now points.now faces.now in
-        IsFalse v.lacks_rows }
-    requires vf { let v = view_of F.Filter.struck inspection.now points.now faces.now in
-        AllInside vf_naming v (entries vf.now) }
-    requires ee { let v = view_of F.Filter.struck inspection.now points.now faces.now in
-        AllInside ee_naming v (entries ee.now) }
+    requires { let v = view_of F.Filter.struck inspection.now points.now faces.now in
+        Reportable v (entries vf.now) (entries ee.now) }
     ensures printed { let v = view_of F.Filter.struck inspection.now points.now faces.now in
         let text = report_text v (entries vf.now) (entries ee.now) in
         Prints H.does H.fails text host.old result host.new }
