@@ -5,4 +5,3 @@ pub mod Pairwise
 pub mod Turns
 pub mod Inside
 pub mod Volumes
-pub mod Passes

@@ -2,9 +2,7 @@
 use Rattle.std.proofs.Common.{◌≡◌, ℕ, ◌+◌, ◌*◌, ◌^◌, ◌≤◌, T, leb, sym, subst, arith, leb→le, pow_mono}
 use Rattle.motion.specs.declared.shapes.V3.{V3}
 use Rattle.motion.specs.Vectors.{◌+ᵛ◌, ◌-ᵛ◌, dot, cross}
-use Rattle.motion.specs.declared.shapes.Moving.{Moving}
-use Rattle.motion.specs.declared.shapes.Shape.{Shape}
-use Rattle.motion.specs.Laws.{Valid, Within, InReach}
+use Rattle.motion.specs.Laws.{Within}
 use Rattle.filters.specs.Reaching.{Near, Reach}
 use Rattle.filters.proofs.Exact.{near-add, near-sub, near-mul}
 
@@ -27,44 +25,9 @@ pub dot-near : {m n : ℕ} {u v : V3} → Reach m u → Reach n v → Near (m * 
 unfolding dot
 dot-near p q = near-add (near-add (near-mul p.x q.x) (near-mul p.y q.y)) (near-mul p.z q.z)
 
--- ---- the points of a test
-pub point-reach : (B C : ℕ) (v : V3) → Within B v → B ≤ C → Reach C v
-point-reach B C v (x, y, z) h = record { x = record { size = omega arith }; y = record { size = omega arith }; z = record { size = omega arith } }
-
-room : (k : ℕ) → k ≤ 6 → 4096 * 2 ^ k ≤ 2 ^ 18
-room k h = let p : 2 ^ k ≤ 2 ^ 6 = pow_mono h in omega arith
-
-module _ (k : ℕ) (h : k ≤ 6) (m : Moving) (r : InReach k m) where
-  pub start-reach : Reach (2 ^ 18) m.start
-  start-reach = point-reach (4096 * 2 ^ k) (2 ^ 18) m.start r.0 (room k h)
-
-  pub end-reach : Reach (2 ^ 18) m.end
-  end-reach = point-reach (4096 * 2 ^ k) (2 ^ 18) m.end r.1 (room k h)
-
-module _ (t : Shape) (v : Valid t) where
-  pub p0 : Reach (2 ^ 18) t.p.start
-  p0 = start-reach t.scale v.0 t.p v.1
-
-  pub p1 : Reach (2 ^ 18) t.p.end
-  p1 = end-reach t.scale v.0 t.p v.1
-
-  pub a0 : Reach (2 ^ 18) t.a.start
-  a0 = start-reach t.scale v.0 t.a v.2
-
-  pub a1 : Reach (2 ^ 18) t.a.end
-  a1 = end-reach t.scale v.0 t.a v.2
-
-  pub b0 : Reach (2 ^ 18) t.b.start
-  b0 = start-reach t.scale v.0 t.b v.3
-
-  pub b1 : Reach (2 ^ 18) t.b.end
-  b1 = end-reach t.scale v.0 t.b v.3
-
-  pub c0 : Reach (2 ^ 18) t.c.start
-  c0 = start-reach t.scale v.0 t.c v.4
-
-  pub c1 : Reach (2 ^ 18) t.c.end
-  c1 = end-reach t.scale v.0 t.c v.4
+-- a point of a test
+pub in-reach : (k : ℕ) (v : V3) → k ≤ 6 → Within (4096 * 2 ^ k) v → Reach (2 ^ 18) v
+in-reach k v h (x, y, z) = let p : 2 ^ k ≤ 2 ^ 6 = pow_mono h in record { x = record { size = omega arith }; y = record { size = omega arith }; z = record { size = omega arith } }
 
 -- what a call returned reaches as far as what its contract says it is
 pub reached : {m n : ℕ} {u r : V3} → r ≡ u → Reach m u → T (leb m n) → Reach n r

@@ -1,5 +1,5 @@
 -- Struck at a depth, for every set that keeps the laws.
-use Rattle.std.proofs.Common.{◌≡◌, ℕ, zero, suc, ◌+◌, ◌-◌, ◌^◌, ◌≤◌, Bool, true, false, ◌&&◌, sym, refl, ap, ◌∙◌, subst, arith}
+use Rattle.std.proofs.Common.{◌≡◌, ℕ, zero, suc, ◌+◌, ◌^◌, ◌≤◌, Bool, true, ◌&&◌, sym, ap, ◌∙◌, arith}
 use Rattle.std.proofs.lemmas.Bool.{and_parts, and_from}
 use Rattle.motion.specs.declared.shapes.Shape.{Shape}
 use Rattle.motion.specs.Laws.{Valid, gap, Apart, Lawful, subinterval, half}
@@ -8,23 +8,16 @@ use Rattle.motion.proofs.Subintervals.{twice, in-first, in-last, whole, valid-fi
 use Rattle.motion.proofs.HalvesApart.{halves-apart}
 
 and-assoc : (a b c : Bool) → ((a && b) && c) ≡ (a && (b && c))
-and-assoc true b c = refl
-and-assoc false b c = refl
+and-assoc a b c = grind arith
 
 and-true : (a : Bool) → a ≡ (a && true)
-and-true true = refl
-and-true false = refl
+and-true a = grind arith
 
 every-more : (f : ℕ → Bool) (m n : ℕ) → every f (m + n) ≡ (every f m && every (λ j. f (m + j)) n)
-every-more f m zero = ap (every f) none ∙ and-true (every f m)
-  where
-    none : m + 0 ≡ m
-    none = omega arith
+every-more f m zero = let e : m + 0 ≡ m = omega arith in ap (every f) e ∙ and-true (every f m)
 every-more f m (suc n) =
-    ap (every f) one-more ∙ ap (λ b. b && f (m + n)) (every-more f m n) ∙ and-assoc (every f m) (every (λ j. f (m + j)) n) (f (m + n))
-  where
-    one-more : m + suc n ≡ suc (m + n)
-    one-more = omega arith
+    let e : m + suc n ≡ suc (m + n) = omega arith in
+    ap (every f) e ∙ ap (λ b. b && f (m + n)) (every-more f m n) ∙ and-assoc (every f m) (every (λ j. f (m + j)) n) (f (m + n))
 
 module _ (set : Shape → Bool) where
   pub struck-whole : (t : Shape) → struck_at set 0 t ≡ set t
@@ -48,44 +41,26 @@ module _ (set : Shape → Bool) (l : Lawful set) where
   whole-struck (suc d) t v k h =
       let c : t.scale ≤ 5 = omega arith in
       let s = l.halves t v c h in
-      struck-step set d t ∙ and_from (struck_at set d (half 0 t)) (struck_at set d (half 1 t))
-      (whole-struck d (half 0 t) (valid-first t v c) (omega arith) s.0) (whole-struck d (half 1 t) (valid-last t v c) (omega arith) s.1)
+      struck-step set d t ∙ and_from _ _ (whole-struck d (half 0 t) (valid-first t v c) (omega arith) s.0) (whole-struck d (half 1 t) (valid-last t v c) (omega arith) s.1)
 
-  struck-apart : (d : ℕ) (t : Shape) → Valid t → t.scale + d ≤ 6 → struck_at set d t ≡ true → Apart t
-  struck-apart zero t v k h = l.apart t v (sym (struck-whole set t) ∙ h)
-  struck-apart (suc d) t v k h =
+  parts : (d : ℕ) (t : Shape) → struck_at set (suc d) t ≡ true → (struck_at set d (half 0 t) ≡ true) × (struck_at set d (half 1 t) ≡ true)
+  parts d t h = and_parts _ _ (sym (struck-step set d t) ∙ h)
+
+  apart : (d : ℕ) (t : Shape) → Valid t → t.scale + d ≤ 6 → struck_at set d t ≡ true → Apart t
+  apart zero t v k h = l.apart t v (sym (struck-whole set t) ∙ h)
+  apart (suc d) t v k h =
       let c : t.scale ≤ 5 = omega arith in
-      let s = and_parts (struck_at set d (half 0 t)) (struck_at set d (half 1 t)) (sym (struck-step set d t) ∙ h) in
-      halves-apart gap t (struck-apart d (half 0 t) (valid-first t v c) (omega arith) s.0) (struck-apart d (half 1 t) (valid-last t v c) (omega arith) s.1)
+      let s = parts d t h in
+      halves-apart gap t (apart d (half 0 t) (valid-first t v c) (omega arith) s.0) (apart d (half 1 t) (valid-last t v c) (omega arith) s.1)
 
-  one-deeper : (d : ℕ) (t : Shape) → Valid t → t.scale + suc d ≤ 6 → struck_at set d t ≡ true → struck_at set (suc d) t ≡ true
-  one-deeper zero t v k h = whole-struck 1 t v k (sym (struck-whole set t) ∙ h)
-  one-deeper (suc d) t v k h =
+  deeper : (d e : ℕ) (t : Shape) → Valid t → d ≤ e → t.scale + e ≤ 6 → struck_at set d t ≡ true → struck_at set e t ≡ true
+  deeper zero e t v le k h = whole-struck e t v k (sym (struck-whole set t) ∙ h)
+  deeper (suc d) zero t v le k h = absurd (omega arith)
+  deeper (suc d) (suc e) t v le k h =
       let c : t.scale ≤ 5 = omega arith in
-      let s = and_parts (struck_at set d (half 0 t)) (struck_at set d (half 1 t)) (sym (struck-step set d t) ∙ h) in
-      struck-step set (suc d) t ∙ and_from (struck_at set (suc d) (half 0 t)) (struck_at set (suc d) (half 1 t))
-      (one-deeper d (half 0 t) (valid-first t v c) (omega arith) s.0) (one-deeper d (half 1 t) (valid-last t v c) (omega arith) s.1)
-
-  much-deeper : (n d : ℕ) (t : Shape) → Valid t → t.scale + (d + n) ≤ 6 → struck_at set d t ≡ true → struck_at set (d + n) t ≡ true
-  much-deeper zero d t v k h = subst (λ (e : ℕ). struck_at set e t ≡ true) none h
-    where
-      none : d ≡ d + 0
-      none = omega arith
-  much-deeper (suc n) d t v k h =
-      subst (λ (e : ℕ). struck_at set e t ≡ true) one-more (one-deeper (d + n) t v (omega arith) (much-deeper n d t v (omega arith) h))
-    where
-      one-more : suc (d + n) ≡ d + suc n
-      one-more = omega arith
+      let s = parts d t h in
+      struck-step set e t
+      ∙ and_from _ _ (deeper d e (half 0 t) (valid-first t v c) (omega arith) (omega arith) s.0) (deeper d e (half 1 t) (valid-last t v c) (omega arith) (omega arith) s.1)
 
   pub struck : (d : ℕ) (t : Shape) → Valid t → t.scale + d ≤ 6 → struck_at set d t ≡ true → Struck set d t
-  struck d t v k h =
-      record {
-        apart = struck-apart d t v k h;
-        deeper = λ e c r. subst (λ (n : ℕ). struck_at set n t ≡ true) (up-to d e c) (much-deeper (e - d) d t v (fits t.scale d e c r) h);
-      }
-    where
-      up-to : (d e : ℕ) → d ≤ e → d + (e - d) ≡ e
-      up-to d e c = omega arith
-
-      fits : (k d e : ℕ) → d ≤ e → k + e ≤ 6 → k + (d + (e - d)) ≤ 6
-      fits k d e c r = omega arith
+  struck d t v k h = record { apart = apart d t v k h; deeper = λ e c r. deeper d e t v c r h }

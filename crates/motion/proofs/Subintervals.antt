@@ -1,42 +1,20 @@
 -- A subinterval of a half is a subinterval of the whole; a subinterval of a test within its bounds
 -- is within its own.
-use Rattle.std.proofs.Common.{◌≡◌, ℕ, suc, ◌+◌, ◌*◌, ◌^◌, ◌<◌, ◌≤◌, [], ◌∷◌, ℤ, pos, ◌+ℤ◌, ◌-ℤ◌, ◌*ℤ◌, ap, ◌∙◌, subst, add_assoc, mul_comm, pow-suc, arith}
+use Rattle.std.proofs.Common.{◌≡◌, ℕ, suc, ◌+◌, ◌*◌, ◌^◌, ◌<◌, ◌≤◌, ap, ◌∙◌, subst, add_assoc, mul_comm, pow-suc, arith}
 use Rattle.std.proofs.lemmas.Nat.{pow-add}
 use borrow.Author.Differences.{ints}
 use Rattle.motion.specs.declared.shapes.Moving.{Moving}
 use Rattle.motion.specs.declared.shapes.Shape.{Shape}
 use Rattle.motion.specs.Vectors.{◌+ᵛ◌, ◌·ᵛ◌}
 use Rattle.motion.specs.Laws.{Valid, Within, InReach, at, after, portion, subinterval, half}
-use Rattle.motion.proofs.Ring.{Exp, var, con, ◌⊕◌, ◌⊗◌, ◌⊖◌, ring}
+use Rattle.motion.proofs.Integers.{scales}
+use Rattle.motion.proofs.Products.{same}
 use Rattle.motion.proofs.Places.{within-at}
 
 -- ---- a subinterval of a half
--- s: 0; e: 1; H, i and j: 2 to 4
-nested : (s e : ℤ) (H i j : ℕ)
-    → (pos (2 * H) -ℤ pos (i * H + j)) *ℤ s +ℤ pos (i * H + j) *ℤ e
-    ≡ (pos H -ℤ pos j) *ℤ ((pos 2 -ℤ pos i) *ℤ s +ℤ pos i *ℤ e) +ℤ pos j *ℤ ((pos 2 -ℤ pos (i + 1)) *ℤ s +ℤ pos (i + 1) *ℤ e)
-nested s e H i j =
-    ring (s ∷ e ∷ pos H ∷ pos i ∷ pos j ∷ [])
-    ((con (pos 2) ⊗ h ⊖ (k ⊗ h ⊕ l)) ⊗ var 0 ⊕ (k ⊗ h ⊕ l) ⊗ var 1)
-    ((h ⊖ l) ⊗ ((con (pos 2) ⊖ k) ⊗ var 0 ⊕ k ⊗ var 1) ⊕ l ⊗ ((con (pos 2) ⊖ (k ⊕ con (pos 1))) ⊗ var 0 ⊕ (k ⊕ con (pos 1)) ⊗ var 1)) tt
-  where
-    h : Exp
-    h = var 2
-
-    k : Exp
-    k = var 3
-
-    l : Exp
-    l = var 4
-
 nested-at : (m : Moving) (H i j : ℕ) → at (i * H + j) (2 * H) m ≡ at j H (record { start = at i 2 m; end = at (i + 1) 2 m })
 unfolding at ◌+ᵛ◌ ◌·ᵛ◌
-nested-at m H i j =
-    λ n. record {
-      x = nested m.start.x m.end.x H i j n;
-      y = nested m.start.y m.end.y H i j n;
-      z = nested m.start.z m.end.z H i j n;
-    }
+nested-at m H i j = same (simp scales (omega (arith, ints)))
 
 double : (d : ℕ) → 2 ^ suc d ≡ 2 * 2 ^ d
 double d = pow-suc 2 d ∙ mul_comm (2 ^ d) 2
@@ -83,19 +61,15 @@ in-last t d j = ap (λ k. subinterval (suc d) k t) same ∙ nested-subinterval t
     same = omega arith
 
 -- ---- the whole is its only subinterval of depth 0
-whole-at : (s e : ℤ) → pos 1 *ℤ s +ℤ pos 0 *ℤ e ≡ s
-whole-at s e = omega (arith, ints)
-
-end-at : (s e : ℤ) → pos 0 *ℤ s +ℤ pos 1 *ℤ e ≡ e
-end-at s e = omega (arith, ints)
-
 whole-portion : (m : Moving) → portion 0 0 m ≡ m
 unfolding after at ◌+ᵛ◌ ◌·ᵛ◌
-whole-portion m =
-    λ n. record {
-      start = record { x = whole-at m.start.x m.end.x n; y = whole-at m.start.y m.end.y n; z = whole-at m.start.z m.end.z n };
-      end = record { x = end-at m.start.x m.end.x n; y = end-at m.start.y m.end.y n; z = end-at m.start.z m.end.z n };
-    }
+whole-portion m = λ n. record { start = start n; end = end n }
+  where
+    start : at 0 1 m ≡ m.start
+    start = same (omega (arith, ints))
+
+    end : at 1 1 m ≡ m.end
+    end = same (omega (arith, ints))
 
 pub whole : (t : Shape) → subinterval 0 0 t ≡ t
 whole t =
@@ -114,7 +88,7 @@ whole t =
 -- ---- bounds
 reach-after : (k h j : ℕ) → j ≤ 2 ^ h → (m : Moving) → InReach k m → Within (4096 * 2 ^ (k + h)) (after h j m)
 unfolding after
-reach-after k h j le m r = subst (λ (B : ℕ). Within B (at j (2 ^ h) m)) finer (within-at k m r j (2 ^ h) le)
+reach-after k h j le m r = subst (λ (B : ℕ). Within B (at j (2 ^ h) m)) finer (within-at (4096 * 2 ^ k) j (2 ^ h) m le r.0 r.1)
   where
     finer : 4096 * 2 ^ k * 2 ^ h ≡ 4096 * 2 ^ (k + h)
     finer = omega (arith, pow-add 2 k h)

@@ -1,9 +1,8 @@
-use Rattle.std.proofs.Common.{w64}
-use Rattle.filters.proofs.Exact.{less, less-fits, product}
+use Rattle.filters.proofs.Exact.{less, fits, stored, product}
 use Rattle.filters.proofs.vectors.minor.Goals as goal
 
 pub overflow_sub-result : goal.overflow_sub-result
-overflow_sub-result c = less-fits (product c.requires.first c.requires.fourth tt tt tt) (product c.requires.second c.requires.third tt tt tt) tt
+overflow_sub-result c = fits (less (product c.requires.first c.requires.fourth tt tt tt) (product c.requires.second c.requires.third tt tt tt)) tt
 
 pub returns : goal.returns
-returns c = (less {w = w64} (product c.requires.first c.requires.fourth tt tt tt) (product c.requires.second c.requires.third tt tt tt) tt).same
+returns c = (stored (less (product c.requires.first c.requires.fourth tt tt tt) (product c.requires.second c.requires.third tt tt tt)) tt).same

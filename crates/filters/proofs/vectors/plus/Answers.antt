@@ -1,13 +1,9 @@
-use Rattle.std.proofs.Common.{w64}
+use Rattle.std.proofs.Common.{arith}
+use borrow.Author.Differences.{ints}
 use Rattle.motion.specs.Vectors.{◌+ᵛ◌}
-use Rattle.filters.proofs.Exact.{value, plus}
+use Rattle.motion.proofs.Products.{same}
 use Rattle.filters.proofs.vectors.plus.Goals as goal
 
 pub returns : goal.returns
 unfolding ◌+ᵛ◌
-returns c =
-    λ i. record {
-      x = (plus {w = w64} (value c.requires.0.x tt) (value c.requires.1.x tt) tt).same i;
-      y = (plus {w = w64} (value c.requires.0.y tt) (value c.requires.1.y tt) tt).same i;
-      z = (plus {w = w64} (value c.requires.0.z tt) (value c.requires.1.z tt) tt).same i;
-    }
+returns c = same (omega (arith, ints))

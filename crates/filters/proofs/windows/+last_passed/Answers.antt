@@ -1,5 +1,5 @@
 use Rattle.std.proofs.Common.{◌-◌}
-use Rattle.filters.proofs.Passes.{none_at, last_below}
+use Rattle.motion.proofs.Windows.{none_at, last_below}
 use Rattle.filters.proofs.windows.+last_passed.Goals as goal
 
 pub returns-then-strikes : goal.returns-then-strikes
