@@ -1,5 +1,5 @@
 -- Box keeps both laws, and Slab strikes what it strikes.
-use Rattle.std.proofs.Common.{◌≡◌, ℕ, ◌<◌, true, ◌&&◌, List, [], ◌∷◌, map, ℤ, pos, ◌+ℤ◌, ◌-ℤ◌, ◌≤ℤ◌, get_or, sym, ap, ◌∙◌, ⊎_elim, arith}
+use Rattle.std.proofs.Common.{◌≡◌, ℕ, zero, suc, ◌<◌, ◌≤◌, true, ◌&&◌, List, [], ◌∷◌, map, ℤ, pos, ◌+ℤ◌, ◌-ℤ◌, ◌≤ℤ◌, get_or, sym, ◌∙◌, ⊎_elim, arith}
 use lib.Signed.{lt_z, ≤ℤ_refl}
 use borrow.Author.Differences.{ints}
 use Rattle.std.specs.Int.{int_min, int_max}
@@ -12,8 +12,8 @@ use Rattle.motion.specs.declared.shapes.Moving.{Moving}
 use Rattle.motion.specs.declared.shapes.Shape.{Shape}
 use Rattle.motion.specs.Vectors.{◌+ᵛ◌, ◌-ᵛ◌, dot, vector, origin}
 use Rattle.motion.specs.Features.{first, second}
-use Rattle.motion.specs.Laws.{Within, Lawful, after, portion, half}
-use Rattle.motion.specs.Box.{greatest, least, coordinates, under, parted_on, box_set}
+use Rattle.motion.specs.Laws.{Within, Lawful, portion, half}
+use Rattle.motion.specs.Box.{extreme, coordinates, under, parted_on, box_set}
 use Rattle.motion.specs.Slab.{pairs, above, below, parted_along, directions, slab_set}
 use Rattle.motion.specs.Rows.{IsPartOf}
 use Rattle.motion.proofs.Products.{dot-sum, dot-minus}
@@ -29,73 +29,66 @@ pub record Axis (axis : V3 → ℤ) : Type 0 where
   pub within : Within 1 way
   pub product : (v : V3) → dot way v ≡ axis v
 
--- ---- the greatest of three, and the least
-module _ (x y z b : ℤ) where
-  greatest-parts : int_max x (int_max y z) ≤ℤ b → (x ≤ℤ b) × (y ≤ℤ b) × (z ≤ℤ b)
-  greatest-parts h = omega (arith, ints, clamps)
+-- a bound: from above what `int_max` tells of two, from below what `int_min` does
+record Bound (f : ℤ → ℤ → ℤ) (R : ℤ → ℤ → Type 0) : Type 0 where
+  parts : (x y z : ℤ) → R (f x y) z → R x z × R y z
+  from : (x y z : ℤ) → R x z → R y z → R (f x y) z
+  adds : (x y z : ℤ) → R x z → R y z → R (x +ℤ y) (z +ℤ z)
 
-  greatest-from : x ≤ℤ b → y ≤ℤ b → z ≤ℤ b → int_max x (int_max y z) ≤ℤ b
-  greatest-from p q r = omega (arith, ints, clamps)
+above-all : Bound int_max (λ x z. x ≤ℤ z)
+above-all =
+    record { parts = λ x y z h. omega (arith, ints, clamps); from = λ x y z p q. omega (arith, ints, clamps); adds = λ x y z p q. omega (arith, ints) }
 
-  least-parts : b ≤ℤ int_min x (int_min y z) → (b ≤ℤ x) × (b ≤ℤ y) × (b ≤ℤ z)
-  least-parts h = omega (arith, ints, clamps)
-
-  least-from : b ≤ℤ x → b ≤ℤ y → b ≤ℤ z → b ≤ℤ int_min x (int_min y z)
-  least-from p q r = omega (arith, ints, clamps)
-
-module _ (axis : V3 → ℤ) where
-  abbrev AtMost : ℤ → Moving → Type 0
-  AtMost z m = (axis m.start ≤ℤ z) × (axis m.end ≤ℤ z)
-
-  abbrev AtLeast : ℤ → Moving → Type 0
-  AtLeast z m = (z ≤ℤ axis m.start) × (z ≤ℤ axis m.end)
-
-  at-most : (z : ℤ) (ms : List Moving) → greatest (coordinates axis ms) ≤ℤ z → Each (AtMost z) ms
-  at-most z [] h = tt
-  at-most z (m ∷ []) h = (omega (arith, ints, clamps), tt)
-  at-most z (m ∷ n ∷ ms) h = let p = greatest-parts _ _ _ z h in ((p.0, p.1), at-most z (n ∷ ms) p.2)
-
-  at-least : (z : ℤ) (ms : List Moving) → z ≤ℤ least (coordinates axis ms) → Each (AtLeast z) ms
-  at-least z [] h = tt
-  at-least z (m ∷ []) h = (omega (arith, ints, clamps), tt)
-  at-least z (m ∷ n ∷ ms) h = let p = least-parts _ _ _ z h in ((p.0, p.1), at-least z (n ∷ ms) p.2)
-
-  -- a half's coordinates are sums of two of the whole's
-  module _ (j : ℕ) (most : (z : ℤ) (m : Moving) → AtMost z m → AtMost (z +ℤ z) (portion 1 j m))
-      (least' : (z : ℤ) (m : Moving) → AtLeast z m → AtLeast (z +ℤ z) (portion 1 j m)) where
-    greatest-half : (z : ℤ) (ms : List Moving) → greatest (coordinates axis ms) ≤ℤ z → greatest (coordinates axis (map (portion 1 j) ms)) ≤ℤ (z +ℤ z)
-    greatest-half z [] e = omega (arith, ints)
-    greatest-half z (m ∷ []) e = let p = most z m (at-most z (m ∷ []) e).0 in omega (arith, ints, clamps)
-    greatest-half z (m ∷ n ∷ ms) e =
-        let p = greatest-parts _ _ _ z e in
-        let q = most z m (p.0, p.1) in greatest-from _ _ _ (z +ℤ z) q.0 q.1 (greatest-half z (n ∷ ms) p.2)
-
-    least-half : (z : ℤ) (ms : List Moving) → z ≤ℤ least (coordinates axis ms) → (z +ℤ z) ≤ℤ least (coordinates axis (map (portion 1 j) ms))
-    least-half z [] e = omega (arith, ints)
-    least-half z (m ∷ []) e = let p = least' z m (at-least z (m ∷ []) e).0 in omega (arith, ints, clamps)
-    least-half z (m ∷ n ∷ ms) e =
-        let p = least-parts _ _ _ z e in
-        let q = least' z m (p.0, p.1) in least-from _ _ _ (z +ℤ z) q.0 q.1 (least-half z (n ∷ ms) p.2)
-
-    under-half : (ms ns : List Moving) → under axis ms ns ≡ true → under axis (map (portion 1 j) ms) (map (portion 1 j) ns) ≡ true
-    under-half ms ns e = less _ _ _ _ e (greatest-half _ ms (≤ℤ_refl _)) (least-half _ ns (≤ℤ_refl _))
-      where
-        less : (g l g' l' : ℤ) → lt_z g l ≡ true → g' ≤ℤ (g +ℤ g) → (l +ℤ l) ≤ℤ l' → lt_z g' l' ≡ true
-        less g l g' l' e p q = grind (arith, ints)
-
-    parted-half : (t : Shape) → parted_on axis t ≡ true → parted_on axis (half j t) ≡ true
-    parted-half t h =
-        ⊎_elim (λ e. or_left _ _ (sym (λ i. under axis (ones-of t j i) (others-of t j i)) ∙ under-half (first t) (second t) e))
-        (λ e. or_right (under axis (first (half j t)) (second (half j t))) _ (sym (λ i. under axis (others-of t j i) (ones-of t j i)) ∙ under-half (second t) (first t) e))
-        (or_cases (under axis (first t) (second t)) (under axis (second t) (first t)) h)
+below-all : Bound int_min (λ x z. z ≤ℤ x)
+below-all =
+    record { parts = λ x y z h. omega (arith, ints, clamps); from = λ x y z p q. omega (arith, ints, clamps); adds = λ x y z p q. omega (arith, ints) }
 
 module _ {axis : V3 → ℤ} (a : Axis axis) where
-  -- ---- what Box strikes on an axis, Slab strikes along it
-  minus-product : (u v : V3) → dot a.way (u -ᵛ v) ≡ axis u -ℤ axis v
-  minus-product u v = dot-minus a.way u v ∙ (λ i. a.product u i -ℤ a.product v i)
+  sum-product : (u v : V3) → axis (u +ᵛ v) ≡ axis u +ℤ axis v
+  sum-product u v = sym (a.product (u +ᵛ v)) ∙ dot-sum a.way u v ∙ (λ i. a.product u i +ℤ a.product v i)
 
+  module _ {f : ℤ → ℤ → ℤ} {R : ℤ → ℤ → Type 0} (b : Bound f R) (z : ℤ) where
+    abbrev Bounded : Moving → Type 0
+    Bounded m = R (axis m.start) z × R (axis m.end) z
+
+    bounded : (ms : List Moving) → R (extreme f (coordinates axis ms)) z → Each Bounded ms
+    bounded [] h = tt
+    bounded (m ∷ []) h = (b.parts _ _ z h, tt)
+    bounded (m ∷ n ∷ ms) h =
+        let p = b.parts _ _ z h in
+        let q = b.parts _ _ z p.1 in ((p.0, q.0), bounded (n ∷ ms) q.1)
+
+    -- a half's coordinates are sums of two of the whole's
+    half-point : (j : ℕ) (m : Moving) → j ≤ 1 → Bounded m → R (axis (portion 1 j m).start) (z +ℤ z) × R (axis (portion 1 j m).end) (z +ℤ z)
+    half-point zero m le (p, q) = (rw (at_start m, sum-product m.start m.start) (b.adds _ _ z p p), rw (at_middle m, sum-product m.start m.end) (b.adds _ _ z p q))
+    half-point (suc zero) m le (p, q) = (rw (at_middle m, sum-product m.start m.end) (b.adds _ _ z p q), rw (at_end m, sum-product m.end m.end) (b.adds _ _ z q q))
+    half-point (suc (suc j)) m le p = absurd (omega arith)
+
+    half-bounded : (j : ℕ) (ms : List Moving) → j ≤ 1 → R (extreme f (coordinates axis ms)) z → R (extreme f (coordinates axis (map (portion 1 j) ms))) (z +ℤ z)
+    half-bounded j [] le h = b.adds _ _ z h h
+    half-bounded j (m ∷ []) le h = let p = half-point j m le (b.parts _ _ z h) in b.from _ _ _ p.0 p.1
+    half-bounded j (m ∷ n ∷ ms) le h =
+        let p = b.parts _ _ z h in
+        let q = b.parts _ _ z p.1 in
+        let r = half-point j m le (p.0, q.0) in b.from _ _ _ r.0 (b.from _ _ _ r.1 (half-bounded j (n ∷ ms) le q.1))
+
+  -- ---- the halves
+  under-half : (j : ℕ) (ms ns : List Moving) → j ≤ 1 → under axis ms ns ≡ true → under axis (map (portion 1 j) ms) (map (portion 1 j) ns) ≡ true
+  under-half j ms ns le e = less _ _ _ _ e (half-bounded above-all _ j ms le (≤ℤ_refl _)) (half-bounded below-all _ j ns le (≤ℤ_refl _))
+    where
+      less : (g l g' l' : ℤ) → lt_z g l ≡ true → g' ≤ℤ (g +ℤ g) → (l +ℤ l) ≤ℤ l' → lt_z g' l' ≡ true
+      less g l g' l' e p q = grind (arith, ints)
+
+  parted-half : (j : ℕ) (t : Shape) → j ≤ 1 → parted_on axis t ≡ true → parted_on axis (half j t) ≡ true
+  parted-half j t le h =
+      ⊎_elim (λ e. or_left _ _ (sym (λ i. under axis (ones-of t j i) (others-of t j i)) ∙ under-half j (first t) (second t) le e))
+      (λ e. or_right (under axis (first (half j t)) (second (half j t))) _ (sym (λ i. under axis (others-of t j i) (ones-of t j i)) ∙ under-half j (second t) (first t) le e))
+      (or_cases (under axis (first t) (second t)) (under axis (second t) (first t)) h)
+
+  -- ---- what Box strikes on an axis, Slab strikes along it
   less : (g l : ℤ) (u v : V3) → lt_z g l ≡ true → axis u ≤ℤ g → l ≤ℤ axis v → (below a.way (u -ᵛ v) ≡ true) × (above a.way (v -ᵛ u) ≡ true)
-  less g l u v e p q = (rw (minus-product u v) (under-zero (axis u) (axis v) p q), rw (minus-product v u) (over-zero (axis u) (axis v) p q))
+  less g l u v e p q =
+      (rw (dot-minus a.way u v, a.product u, a.product v) (under-zero (axis u) (axis v) p q), rw (dot-minus a.way v u, a.product v, a.product u) (over-zero (axis u) (axis v) p q))
     where
       under-zero : (x y : ℤ) → x ≤ℤ g → l ≤ℤ y → lt_z (x -ℤ y) (pos 0) ≡ true
       under-zero x y p q = grind (arith, ints)
@@ -104,11 +97,11 @@ module _ {axis : V3 → ℤ} (a : Axis axis) where
       over-zero x y p q = grind (arith, ints)
 
   module _ (ms ns : List Moving) (e : under axis ms ns ≡ true) where
-    lows : Each (AtMost axis (greatest (coordinates axis ms))) ms
-    lows = at-most axis _ ms (≤ℤ_refl _)
+    lows : Each (Bounded above-all (extreme int_max (coordinates axis ms))) ms
+    lows = bounded above-all _ ms (≤ℤ_refl _)
 
-    highs : Each (AtLeast axis (least (coordinates axis ns))) ns
-    highs = at-least axis _ ns (≤ℤ_refl _)
+    highs : Each (Bounded below-all (extreme int_min (coordinates axis ns))) ns
+    highs = bounded below-all _ ns (≤ℤ_refl _)
 
     all-below : list_all (λ m. list_all (λ n. below a.way (m.start -ᵛ n.start) && below a.way (m.end -ᵛ n.end)) ns) ms ≡ true
     all-below = each-to-all _ (λ m p. each-to-all _ (λ n q. and_from _ _ (less _ _ m.start n.start e p.0 q.0).0 (less _ _ m.end n.end e p.1 q.1).0) ns highs) ms lows
@@ -121,37 +114,11 @@ module _ {axis : V3 → ℤ} (a : Axis axis) where
       ⊎_elim (λ e. or_right (pairs (above a.way) t) _ (all-below (first t) (second t) e)) (λ e. or_left (pairs (above a.way) t) _ (all-above (second t) (first t) e))
       (or_cases (under axis (first t) (second t)) (under axis (second t) (first t)) h)
 
-  -- ---- the halves
-  sum-product : (u v : V3) → axis (u +ᵛ v) ≡ axis u +ℤ axis v
-  sum-product u v = sym (a.product (u +ᵛ v)) ∙ dot-sum a.way u v ∙ (λ i. a.product u i +ℤ a.product v i)
-
-  module _ (z : ℤ) (m : Moving) where
-    at-0 : axis (after 1 0 m) ≡ axis m.start +ℤ axis m.start
-    at-0 = ap axis (at_start m) ∙ sum-product m.start m.start
-
-    at-1 : axis (after 1 1 m) ≡ axis m.start +ℤ axis m.end
-    at-1 = ap axis (at_middle m) ∙ sum-product m.start m.end
-
-    at-2 : axis (after 1 2 m) ≡ axis m.end +ℤ axis m.end
-    at-2 = ap axis (at_end m) ∙ sum-product m.end m.end
-
-    first-most : AtMost axis z m → AtMost axis (z +ℤ z) (portion 1 0 m)
-    first-most p = omega (arith, ints, at-0, at-1)
-
-    first-least : AtLeast axis z m → AtLeast axis (z +ℤ z) (portion 1 0 m)
-    first-least p = omega (arith, ints, at-0, at-1)
-
-    last-most : AtMost axis z m → AtMost axis (z +ℤ z) (portion 1 1 m)
-    last-most p = omega (arith, ints, at-1, at-2)
-
-    last-least : AtLeast axis z m → AtLeast axis (z +ℤ z) (portion 1 1 m)
-    last-least p = omega (arith, ints, at-1, at-2)
-
-  pub axis-lawful : Lawful (parted_on axis)
+  axis-lawful : Lawful (parted_on axis)
   axis-lawful =
       record {
         apart = λ t v h. (along-lawful a.way a.within).apart t v (along t h);
-        halves = λ t v k h. (parted-half axis 0 first-most first-least t h, parted-half axis 1 last-most last-least t h);
+        halves = λ t v k h. (parted-half 0 t (omega arith) h, parted-half 1 t (omega arith) h);
       }
 
 -- ---- the three axes

@@ -12,7 +12,7 @@ use Rattle.motion.specs.Features.{firsts, seconds, first, second}
 use Rattle.motion.specs.Laws.{Within, InReach, Valid, Apart, Lawful, at, half}
 use Rattle.motion.specs.Plane.{normal, controls, all_above, all_below, plane_set, volume_at, StaysAbove, StaysBelow, NeverCoplanar}
 use Rattle.motion.proofs.Integers.{products, sums}
-use Rattle.motion.proofs.Products.{same, dot-minus, dot-turn, dot-comm, cross-first, cross-second, times-dot}
+use Rattle.motion.proofs.Products.{same, dot-minus, dot-comm, cross-first, cross-second, times-dot}
 use Rattle.motion.proofs.Determinants.{values, at_start, at_end, sum, controls-are}
 use Rattle.motion.proofs.Signs.{Sign, positive, negative}
 use Rattle.motion.proofs.ControlHalves.{left, right, left-is, right-is, all, halves-all}
@@ -55,18 +55,16 @@ level n u v e = omega (arith, sums, dot-minus n u v)
 shift : (n u v x y : V3) → dot n u ≡ dot n x → dot n v ≡ dot n y → dot n (u -ᵛ v) ≡ dot n (x -ᵛ y)
 shift n u v x y e e' = omega (arith, sums, dot-minus n u v, dot-minus n x y)
 
-flat : (u v w : V3) → dot u (cross v (w -ᵛ v)) ≡ dot u (cross v w)
-unfolding dot cross ◌-ᵛ◌
-flat u v w = simp products (omega (arith, sums))
-
 steps : (a b c : V3) → c -ᵛ b ≡ (c -ᵛ a) -ᵛ (b -ᵛ a)
 unfolding ◌-ᵛ◌
 steps a b c = same (omega (arith, ints))
 
+turned : (u v w : V3) → dot (cross (w -ᵛ v) u) v ≡ dot u (cross v w)
+unfolding dot cross ◌-ᵛ◌
+turned u v w = simp products (omega (arith, sums))
+
 edges : (p a b c : V3) → dot (cross (c -ᵛ b) (p -ᵛ a)) (b -ᵛ a) ≡ dot (p -ᵛ a) (normal a b c)
-edges p a b c =
-    dot-comm (cross (c -ᵛ b) (p -ᵛ a)) (b -ᵛ a) ∙ dot-turn (b -ᵛ a) (c -ᵛ b) (p -ᵛ a) ∙ dot-turn (c -ᵛ b) (p -ᵛ a) (b -ᵛ a)
-    ∙ ap (λ (x : V3). dot (p -ᵛ a) (cross (b -ᵛ a) x)) (steps a b c) ∙ flat (p -ᵛ a) (b -ᵛ a) (c -ᵛ a)
+edges p a b c = rw (steps a b c) (turned (p -ᵛ a) (b -ᵛ a) (c -ᵛ a))
 
 all-level : (f : Moving → V3) (k : Kind) (p a b c : Moving)
     → Each (λ m. Each (λ o. dot (across k (f p) (f a) (f b) (f c)) (f m -ᵛ f o) ≡ dot (f p -ᵛ f a) (normal (f a) (f b) (f c))) (seconds k p a b c)) (firsts k p a b c)
@@ -96,25 +94,20 @@ room A q a h =
 
 -- ---- the halves
 module _ (t : Shape) where
-  first-half : controls (half 0 t) ≡ left (controls t)
-  first-half =
-      controls-are (half 0 t) ∙ (λ i. values (start i) (middle i)) ∙ left-is (at_start t) (at_end t) ∙ ap left (sym (controls-are t))
-    where
-      start : at_start (half 0 t) ≡ sum (at_start t) (at_start t)
-      start = sym (λ i. record { u = minus-start t.p t.a i; v = minus-start t.b t.a i; w = minus-start t.c t.a i })
+  middle : sum (at_start t) (at_end t) ≡ at_end (half 0 t)
+  middle = λ i. record { u = minus-middle t.p t.a i; v = minus-middle t.b t.a i; w = minus-middle t.c t.a i }
 
-      middle : at_end (half 0 t) ≡ sum (at_start t) (at_end t)
-      middle = sym (λ i. record { u = minus-middle t.p t.a i; v = minus-middle t.b t.a i; w = minus-middle t.c t.a i })
+  first-half : controls (half 0 t) ≡ left (controls t)
+  first-half = controls-are (half 0 t) ∙ sym (λ i. values (start i) (middle i)) ∙ left-is (at_start t) (at_end t) ∙ ap left (sym (controls-are t))
+    where
+      start : sum (at_start t) (at_start t) ≡ at_start (half 0 t)
+      start = λ i. record { u = minus-start t.p t.a i; v = minus-start t.b t.a i; w = minus-start t.c t.a i }
 
   last-half : controls (half 1 t) ≡ right (controls t)
-  last-half =
-      controls-are (half 1 t) ∙ (λ i. values (middle i) (end i)) ∙ right-is (at_start t) (at_end t) ∙ ap right (sym (controls-are t))
+  last-half = controls-are (half 1 t) ∙ sym (λ i. values (middle i) (end i)) ∙ right-is (at_start t) (at_end t) ∙ ap right (sym (controls-are t))
     where
-      middle : at_start (half 1 t) ≡ sum (at_start t) (at_end t)
-      middle = sym (λ i. record { u = minus-middle t.p t.a i; v = minus-middle t.b t.a i; w = minus-middle t.c t.a i })
-
-      end : at_end (half 1 t) ≡ sum (at_end t) (at_end t)
-      end = sym (λ i. record { u = minus-end t.p t.a i; v = minus-end t.b t.a i; w = minus-end t.c t.a i })
+      end : sum (at_end t) (at_end t) ≡ at_end (half 1 t)
+      end = λ i. record { u = minus-end t.p t.a i; v = minus-end t.b t.a i; w = minus-end t.c t.a i }
 
 module _ {f : ℤ → Bool} {k : ℤ} (sign : Sign f k) where
   apart : (t : Shape) → Valid t → all f (controls t) ≡ true → Apart t

@@ -39,11 +39,6 @@ module _ (u v w : V3) where
   unfolding cross ◌-ᵛ◌
   cross-minus = same (simp products (omega (arith, sums)))
 
-  -- the determinant, its factors turned
-  pub dot-turn : dot u (cross v w) ≡ dot v (cross w u)
-  unfolding dot cross
-  dot-turn = simp products (omega (arith, sums))
-
 module _ (k : ℤ) (u v : V3) where
   pub times-dot : dot (k ·ᵛ u) v ≡ k *ℤ dot u v
   unfolding dot ◌·ᵛ◌

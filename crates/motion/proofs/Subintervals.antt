@@ -6,7 +6,7 @@ use borrow.Author.Differences.{ints}
 use Rattle.motion.specs.declared.shapes.Moving.{Moving}
 use Rattle.motion.specs.declared.shapes.Shape.{Shape}
 use Rattle.motion.specs.Vectors.{◌+ᵛ◌, ◌·ᵛ◌}
-use Rattle.motion.specs.Laws.{Valid, Within, InReach, at, after, portion, subinterval, half}
+use Rattle.motion.specs.Laws.{Valid, Within, InReach, at, after, portion, with_points, subinterval, half}
 use Rattle.motion.proofs.Integers.{scales}
 use Rattle.motion.proofs.Products.{same}
 use Rattle.motion.proofs.Places.{within-at}
@@ -32,17 +32,7 @@ nested-portion m d i j =
 
 pub nested-subinterval : (t : Shape) (d i j : ℕ) → subinterval (suc d) (i * 2 ^ d + j) t ≡ subinterval d j (half i t)
 nested-subinterval t d i j =
-    λ n. record {
-      kind = t.kind;
-      p = nested-portion t.p d i j n;
-      a = nested-portion t.a d i j n;
-      b = nested-portion t.b d i j n;
-      c = nested-portion t.c d i j n;
-      scale = finer t.scale d n;
-    }
-  where
-    finer : (k d : ℕ) → k + suc d ≡ k + 1 + d
-    finer k d = omega arith
+    let finer : t.scale + suc d ≡ t.scale + 1 + d = omega arith in λ n. with_points (λ m. nested-portion m d i j n) (finer n) t
 
 pub twice : (d : ℕ) → 2 ^ suc d ≡ 2 ^ d + 2 ^ d
 twice d = omega (arith, pow-suc 2 d)
@@ -72,18 +62,7 @@ whole-portion m = λ n. record { start = start n; end = end n }
     end = same (omega (arith, ints))
 
 pub whole : (t : Shape) → subinterval 0 0 t ≡ t
-whole t =
-    λ n. record {
-      kind = t.kind;
-      p = whole-portion t.p n;
-      a = whole-portion t.a n;
-      b = whole-portion t.b n;
-      c = whole-portion t.c n;
-      scale = same t.scale n;
-    }
-  where
-    same : (k : ℕ) → k + 0 ≡ k
-    same k = omega arith
+whole t = let same : t.scale + 0 ≡ t.scale = omega arith in λ n. with_points (λ m. whole-portion m n) (same n) t
 
 -- ---- bounds
 reach-after : (k h j : ℕ) → j ≤ 2 ^ h → (m : Moving) → InReach k m → Within (4096 * 2 ^ (k + h)) (after h j m)

@@ -4,8 +4,10 @@ use Rattle.motion.specs.Vectors.{◌+ᵛ◌, ◌-ᵛ◌, ◌·ᵛ◌, dot, cross
 use Rattle.motion.specs.Features.{first, second}
 use Rattle.motion.specs.Laws.{Apart, gap, FarBy, on-x, on-y, on-z, at, after, difference}
 use Rattle.motion.specs.Plane.{controls}
+use Rattle.motion.specs.Rows.{delivered}
 use Rattle.motion.specs.Depths.{struck_at, first_passed, last_passed, window_at}
 use Rattle.motion.specs.Cases.{crossing, values, worked_tests, Cases}
+use Rattle.motion.proofs.Windows.{finds-window}
 
 -- at 1/2 the point is the mean of the corners with the weights 2, 1, 1
 at-half : FarBy gap 0 8 (difference 1 2 (1 ∷ []) (first crossing) (2 ∷ 1 ∷ 1 ∷ []) (second crossing)) → ⊥
@@ -21,32 +23,21 @@ pub cases : Cases
 unfolding ◌+ᵛ◌ ◌-ᵛ◌ ◌·ᵛ◌ dot cross at after controls struck_at first_passed last_passed window_at
 cases =
     record {
-      leaving_values = refl;
-      leaving_answers = (refl, refl, refl);
-      crossing_values = refl;
-      crossing_answers = (refl, refl, refl);
-      crossing_window_0 = record { within = omega arith; first = refl; before = refl; last = refl; beyond = refl };
-      crossing_window_1 = record { within = omega arith; first = refl; before = refl; last = refl; beyond = refl };
-      crossing_window_2 = record { within = omega arith; first = refl; before = refl; last = refl; beyond = refl };
-      crossing_window_6 = record { within = omega arith; first = refl; before = refl; last = refl; beyond = refl };
-      crossing_found_0 = refl;
-      crossing_found_1 = refl;
-      crossing_found_2 = refl;
-      crossing_found_6 = refl;
+      leaving_answers = (refl, refl, refl, refl);
+      crossing_answers = (refl, refl, refl, refl);
+      crossing_window_0 = ((finds-window delivered 0 crossing).some 0 0 refl, refl);
+      crossing_window_1 = ((finds-window delivered 1 crossing).some 0 1 refl, refl);
+      crossing_window_2 = ((finds-window delivered 2 crossing).some 1 2 refl, refl);
+      crossing_window_6 = ((finds-window delivered 6 crossing).some 31 32 refl, refl);
       crossing_touches = never-apart;
-      landing_values = refl;
-      landing_answers = (refl, refl, refl);
-      beside_values = refl;
-      beside_answers = (refl, refl, refl);
-      rising_values = refl;
-      rising_answers = (refl, refl, refl);
-      turning_values = refl;
-      turning_answers = (refl, refl, refl);
+      landing_answers = (refl, refl, refl, refl);
+      beside_answers = (refl, refl, refl, refl);
+      rising_answers = (refl, refl, refl, refl);
+      turning_answers = (refl, refl, refl, refl);
       turning_first_half = refl;
       turning_last_half = refl;
       turning_deeper = refl;
-      sinking_values = refl;
-      sinking_answers = (refl, refl, refl);
+      sinking_answers = (refl, refl, refl, refl);
     }
 
 pub worked_values :

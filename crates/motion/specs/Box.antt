@@ -7,16 +7,12 @@ use Rattle.motion.specs.declared.shapes.Moving.{Moving}
 use Rattle.motion.specs.declared.shapes.Shape.{Shape}
 use Rattle.motion.specs.Features.{first, second}
 
+-- the greatest of some numbers or the least, as f is of two;
 -- no feature is empty, so the value at [] is never asked for
-abbrev pub greatest : List ℤ → ℤ
-greatest [] = pos 0
-greatest (x ∷ []) = x
-greatest (x ∷ y ∷ ys) = int_max x (greatest (y ∷ ys))
-
-abbrev pub least : List ℤ → ℤ
-least [] = pos 0
-least (x ∷ []) = x
-least (x ∷ y ∷ ys) = int_min x (least (y ∷ ys))
+abbrev pub extreme : (ℤ → ℤ → ℤ) → List ℤ → ℤ
+extreme f [] = pos 0
+extreme f (x ∷ []) = x
+extreme f (x ∷ y ∷ ys) = f x (extreme f (y ∷ ys))
 
 -- the coordinates of points on an axis, over start and end
 abbrev pub coordinates : (V3 → ℤ) → List Moving → List ℤ
@@ -24,7 +20,7 @@ coordinates axis [] = []
 coordinates axis (m ∷ ms) = axis m.start ∷ axis m.end ∷ coordinates axis ms
 
 abbrev pub under : (V3 → ℤ) → List Moving → List Moving → Bool
-under axis ms ns = int_lt (greatest (coordinates axis ms)) (least (coordinates axis ns))
+under axis ms ns = int_lt (extreme int_max (coordinates axis ms)) (extreme int_min (coordinates axis ns))
 
 abbrev pub parted_on : (V3 → ℤ) → Shape → Bool
 parted_on axis t = under axis (first t) (second t) || under axis (second t) (first t)

@@ -80,34 +80,27 @@ abbrev pub worked_tests : List Shape
 worked_tests =
     leaving ∷ crossing ∷ landing ∷ beside ∷ rising ∷ turning ∷ sinking ∷ []
 
--- what Box, Slab and Plane answer
-abbrev Answers : Shape → Bool → Bool → Bool → Type 0
-Answers t b s p = (box_set t ≡ b) × (slab_set t ≡ s) × (plane_set t ≡ p)
+-- a test's control values, and what Box, Slab and Plane answer
+abbrev Answers : Shape → Controls → Bool → Bool → Bool → Type 0
+Answers t g b s p = (controls t ≡ g) × (box_set t ≡ b) × (slab_set t ≡ s) × (plane_set t ≡ p)
+
+-- the window of the one that crosses
+abbrev CrossingWindow : ℕ → ℕ → ℕ → Type 0
+CrossingWindow d i j = IsWindow delivered d crossing i j × (window_at delivered d crossing ≡ Some (i, j))
 
 pub record Cases : Type 0 where
-  pub leaving_values : controls leaving ≡ values (pos 48) (pos 80) (pos 112) (pos 144)
-  pub leaving_answers : Answers leaving true true true
-  pub crossing_values : controls crossing ≡ values (pos 48) (pos 16) (minus 16) (minus 48)
-  pub crossing_answers : Answers crossing false false false
-  pub crossing_window_0 : IsWindow delivered 0 crossing 0 0
-  pub crossing_window_1 : IsWindow delivered 1 crossing 0 1
-  pub crossing_window_2 : IsWindow delivered 2 crossing 1 2
-  pub crossing_window_6 : IsWindow delivered 6 crossing 31 32
-  pub crossing_found_0 : window_at delivered 0 crossing ≡ Some (0, 0)
-  pub crossing_found_1 : window_at delivered 1 crossing ≡ Some (0, 1)
-  pub crossing_found_2 : window_at delivered 2 crossing ≡ Some (1, 2)
-  pub crossing_found_6 : window_at delivered 6 crossing ≡ Some (31, 32)
+  pub leaving_answers : Answers leaving (values (pos 48) (pos 80) (pos 112) (pos 144)) true true true
+  pub crossing_answers : Answers crossing (values (pos 48) (pos 16) (minus 16) (minus 48)) false false false
+  pub crossing_window_0 : CrossingWindow 0 0 0
+  pub crossing_window_1 : CrossingWindow 1 0 1
+  pub crossing_window_2 : CrossingWindow 2 1 2
+  pub crossing_window_6 : CrossingWindow 6 31 32
   pub crossing_touches : ¬ Apart crossing
-  pub landing_values : controls landing ≡ values (pos 48) (pos 32) (pos 16) (pos 0)
-  pub landing_answers : Answers landing false false false
-  pub beside_values : controls beside ≡ values (pos 0) (pos 0) (pos 0) (pos 0)
-  pub beside_answers : Answers beside true true false
-  pub rising_values : controls rising ≡ values (pos 48) (pos 48) (pos 48) (pos 48)
-  pub rising_answers : Answers rising false true true
-  pub turning_values : controls turning ≡ values (pos 6) (pos 0) (pos 0) (pos 6)
-  pub turning_answers : Answers turning false false false
+  pub landing_answers : Answers landing (values (pos 48) (pos 32) (pos 16) (pos 0)) false false false
+  pub beside_answers : Answers beside (values (pos 0) (pos 0) (pos 0) (pos 0)) true true false
+  pub rising_answers : Answers rising (values (pos 48) (pos 48) (pos 48) (pos 48)) false true true
+  pub turning_answers : Answers turning (values (pos 6) (pos 0) (pos 0) (pos 6)) false false false
   pub turning_first_half : controls (half 0 turning) ≡ values (pos 48) (pos 24) (pos 12) (pos 12)
   pub turning_last_half : controls (half 1 turning) ≡ values (pos 12) (pos 12) (pos 24) (pos 48)
   pub turning_deeper : IsTrue (struck_at delivered 1 turning)
-  pub sinking_values : controls sinking ≡ values (minus 48) (minus 16) (pos 16) (pos 48)
-  pub sinking_answers : Answers sinking false false false
+  pub sinking_answers : Answers sinking (values (minus 48) (minus 16) (pos 16) (pos 48)) false false false

@@ -77,16 +77,12 @@ after h j m = at j (2 ^ h) m
 abbrev pub portion : ℕ → ℕ → Moving → Moving
 portion h j m = record { start = after h j m; end = after h (j + 1) m }
 
+-- a test with its points moved by g, on another grid
+abbrev pub with_points : (Moving → Moving) → ℕ → Shape → Shape
+with_points g scale t = record { kind = t.kind; p = g t.p; a = g t.a; b = g t.b; c = g t.c; scale = scale }
+
 abbrev pub subinterval : ℕ → ℕ → Shape → Shape
-subinterval h j t =
-    record {
-      kind = t.kind;
-      p = portion h j t.p;
-      a = portion h j t.a;
-      b = portion h j t.b;
-      c = portion h j t.c;
-      scale = t.scale + h;
-    }
+subinterval h j t = with_points (portion h j) (t.scale + h) t
 
 abbrev pub half : ℕ → Shape → Shape
 half j t = subinterval 1 j t
