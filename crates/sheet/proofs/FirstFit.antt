@@ -43,6 +43,10 @@ abbrev pub NoneFits : List Check → Type 0
 NoneFits [] = Unit {0}
 NoneFits (c ∷ cs) = (c.fits ≡ false) × NoneFits cs
 
+pub fits_none : (cs : List Check) → NoneFits cs → first_fit cs ≡ None
+fits_none [] h = refl
+fits_none (c ∷ cs) (e, h) = rw e (fits_none cs h)
+
 pub none_fits : (cs : List Check) → first_fit cs ≡ None → NoneFits cs
 none_fits [] e = tt
 none_fits (c ∷ cs) e = let p = no_fit c cs e in (p.0, none_fits cs p.1)

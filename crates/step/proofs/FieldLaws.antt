@@ -1,42 +1,32 @@
 -- One field: what is written of a move reads back, and what is read is what is written.
-use Rattle.std.proofs.Common.{◌≡◌, ℕ, ◌+◌, ◌*◌, ◌/◌, ◌%◌, ◌<◌, ◌≤◌, Bool, true, false, cond, not, ltb, List, [], ◌∷◌, ◌++◌, length, get_or, drop, ℤ, pos, ◌+ℤ◌, ◌-ℤ◌, Some, None, sym, refl, ap, ◌∙◌, arith, w16, SFits, to_z}
+use Rattle.std.proofs.Common.{◌≡◌, ℕ, ◌+◌, ◌*◌, ◌/◌, ◌%◌, ◌<◌, ◌≤◌, Bool, true, false, cond, not, List, [], ◌∷◌, ◌++◌, length, get_or, drop, ℤ, pos, ◌+ℤ◌, ◌-ℤ◌, None, sym, refl, ap, ◌∙◌, arith, w16, SFits, to_z}
 use lib.Signed.{le_z}
 use Rattle.std.proofs.lemmas.Int.{ints, to_z-of_z, of_z-to_z}
 use Rattle.std.proofs.lemmas.Bool.{cond-false, eqb-true, ltb-false, le-ltb, and_parts, not-false, not_from_true}
-use Rattle.sheet.specs.Checks.{Check, first_fit}
+use Rattle.sheet.specs.Checks.{first_fit}
 use Rattle.sheet.specs.Counted.{least, greatest, in_range}
-use Rattle.sheet.proofs.FirstFit.{no_fit}
-use Rattle.step.specs.Laying.{check, move_in, field_checks, end_in, after_field}
+use Rattle.sheet.proofs.FirstFit.{fits_none, none_fits}
+use Rattle.step.specs.Laying.{move_in, field_checks, end_in, after_field}
 use Rattle.step.specs.Record.{word, is_zero, field_of}
 use Rattle.step.specs.declared.faults.At.{At}
-
-pub fit_none : (c : Check) (cs : List Check) → c.fits ≡ false → first_fit cs ≡ None → first_fit (c ∷ cs) ≡ None
-fit_none c cs e f = cond-false c.fits (Some c.tells) (first_fit cs) e ∙ f
 
 -- every number of a list is a byte
 abbrev pub Bytes : List ℕ → Type 0
 Bytes bs = (k : ℕ) → get_or bs k 0 < 256
 
-apart_fits : (s e : ℤ) → le_z least s ≡ true → le_z s greatest ≡ true → le_z least e ≡ true → le_z e greatest ≡ true → SFits w16 (e -ℤ s)
-apart_fits s e p q r t = omega (arith, ints)
-
-pub move_fits : (s e : ℤ) → in_range s ≡ true → in_range e ≡ true → SFits w16 (e -ℤ s)
+move_fits : (s e : ℤ) → in_range s ≡ true → in_range e ≡ true → SFits w16 (e -ℤ s)
 move_fits s e p q =
     let a = and_parts (le_z least s) (le_z s greatest) p in
     let b = and_parts (le_z least e) (le_z e greatest) q in
-    apart_fits s e a.0 a.1 b.0 b.1
-
-word_small : (z : ℤ) → SFits w16 z → word z < 65536
-word_small z f = omega (arith, ints)
-
-two_bytes : (u : ℕ) → u < 65536 → u % 256 + u / 256 % 256 * 256 ≡ u
-two_bytes u h = omega arith
+    omega (arith, ints)
 
 move_back : (z : ℤ) (r : List ℕ) → SFits w16 z → move_in (word z % 256 ∷ (word z / 256 % 256 ∷ r)) ≡ z
-move_back z r f = ap (to_z w16) (two_bytes (word z) (word_small z f)) ∙ to_z-of_z w16 z f
-
-add_back : (s e : ℤ) → s +ℤ (e -ℤ s) ≡ e
-add_back s e = omega (arith, ints)
+move_back z r f =
+    let small : word z < 65536 = omega (arith, ints) in
+    ap (to_z w16) (two_bytes (word z) small) ∙ to_z-of_z w16 z f
+  where
+    two_bytes : (u : ℕ) → u < 65536 → u % 256 + u / 256 % 256 * 256 ≡ u
+    two_bytes u h = omega arith
 
 zero_move : (s e : ℤ) → SFits w16 (e -ℤ s) → word (e -ℤ s) ≡ 0 → s ≡ e
 zero_move s e f h = let k : e -ℤ s ≡ pos 0 = sym (to_z-of_z w16 (e -ℤ s) f) ∙ ap (to_z w16) h in omega (arith, ints)
@@ -46,39 +36,25 @@ pub record ReadBack (a : At) (stands : Bool) (s e : ℤ) (bs r : List ℕ) : Typ
   pub end : end_in stands s bs ≡ e
   pub rest : after_field stands bs ≡ r
 
--- the checks of a field from the second on, and from the third on
-abbrev from_ten : At → ℤ → List ℕ → List Check
-from_ten a s bs = check (is_zero (move_in bs)) 10 a ∷ (check (not (in_range (s +ℤ move_in bs))) 11 a ∷ [])
-
-abbrev from_eleven : At → ℤ → List ℕ → List Check
-from_eleven a s bs = check (not (in_range (s +ℤ move_in bs))) 11 a ∷ []
-
-by_zero : (t : Bool) (a : At) (s e : ℤ) (r : List ℕ) → is_zero (e -ℤ s) ≡ t → SFits w16 (e -ℤ s) → in_range e ≡ true → ReadBack a (not t) s e (cond t [] (word (e -ℤ s) % 256 ∷ (word (e -ℤ s) / 256 % 256 ∷ [])) ++ r) r
-by_zero true a s e r z f g = record { good = refl; end = zero_move s e f (eqb-true (word (e -ℤ s)) 0 z); rest = refl }
-by_zero false a s e r z f g =
-    let m = move_back (e -ℤ s) r f in
-    let bs = word (e -ℤ s) % 256 ∷ (word (e -ℤ s) / 256 % 256 ∷ r) in
-    record {
-      good = fit_none (check (ltb (length bs) 2) 8 a) (from_ten a s bs) (le-ltb (length bs) 2 (omega arith))
-          (fit_none (check (is_zero (move_in bs)) 10 a) (from_eleven a s bs) (ap is_zero m ∙ z)
-          (fit_none (check (not (in_range (s +ℤ move_in bs))) 11 a) [] (not_from_true _ (ap (λ v. in_range (s +ℤ v)) m ∙ ap in_range (add_back s e) ∙ g)) refl));
-      end = ap (λ v. s +ℤ v) m ∙ add_back s e;
-      rest = refl;
-    }
-
 pub field_back : (a : At) (s e : ℤ) (r : List ℕ) → in_range s ≡ true → in_range e ≡ true → ReadBack a (not (is_zero (e -ℤ s))) s e (field_of (e -ℤ s) ++ r) r
-field_back a s e r p q = by_zero (is_zero (e -ℤ s)) a s e r refl (move_fits s e p q) q
+field_back a s e r p q = by_zero (is_zero (e -ℤ s)) refl (move_fits s e p q)
+  where
+    by_zero : (t : Bool) → is_zero (e -ℤ s) ≡ t → SFits w16 (e -ℤ s) → ReadBack a (not t) s e (cond t [] (word (e -ℤ s) % 256 ∷ (word (e -ℤ s) / 256 % 256 ∷ [])) ++ r) r
+    by_zero true z f = record { good = refl; end = zero_move s e f (eqb-true (word (e -ℤ s)) 0 z); rest = refl }
+    by_zero false z f =
+        let m = move_back (e -ℤ s) r f in
+        let bs = word (e -ℤ s) % 256 ∷ (word (e -ℤ s) / 256 % 256 ∷ r) in
+        let back : s +ℤ (e -ℤ s) ≡ e = omega (arith, ints) in
+        record {
+          good = fits_none (field_checks a true s bs) (le-ltb (length bs) 2 (omega arith), (ap is_zero m ∙ z, (not_from_true _ (ap (λ v. in_range (s +ℤ v)) m ∙ ap in_range back ∙ q), tt)));
+          end = ap (λ v. s +ℤ v) m ∙ back;
+          rest = refl;
+        }
 
 pub record WrittenSo (stands : Bool) (s : ℤ) (bs : List ℕ) : Type 0 where
   pub ranges : in_range (end_in stands s bs) ≡ true
   pub bit : is_zero (end_in stands s bs -ℤ s) ≡ not stands
   pub bytes : field_of (end_in stands s bs -ℤ s) ++ after_field stands bs ≡ bs
-
-no_move : (s : ℤ) → s -ℤ s ≡ pos 0
-no_move s = omega (arith, ints)
-
-sub_back : (s m : ℤ) → s +ℤ m -ℤ s ≡ m
-sub_back s m = omega (arith, ints)
 
 low : (l h : ℕ) → l < 256 → h < 256 → (l + h * 256) % 256 ≡ l
 low l h a b = omega arith
@@ -94,19 +70,20 @@ spelt l h r a b z =
     ∙ ap (λ v. v ∷ ((l + h * 256) / 256 % 256 ∷ r)) (low l h a b)
     ∙ ap (λ v. l ∷ (v ∷ r)) (high l h a b)
 
-two_or_more : (s : ℤ) (bs : List ℕ) → Bytes bs → 2 ≤ length bs → is_zero (move_in bs) ≡ false → field_of (move_in bs) ++ drop 2 bs ≡ bs
-two_or_more s [] B l z = absurd (omega arith)
-two_or_more s (x ∷ []) B l z = absurd (omega arith)
-two_or_more s (x ∷ (y ∷ r)) B l z = spelt x y r (B 0) (B 1) z
+two_or_more : (bs : List ℕ) → Bytes bs → 2 ≤ length bs → is_zero (move_in bs) ≡ false → field_of (move_in bs) ++ drop 2 bs ≡ bs
+two_or_more [] B l z = absurd (omega arith)
+two_or_more (x ∷ []) B l z = absurd (omega arith)
+two_or_more (x ∷ (y ∷ r)) B l z = spelt x y r (B 0) (B 1) z
 
 pub field_only : (a : At) (stands : Bool) (s : ℤ) (bs : List ℕ) → Bytes bs → in_range s ≡ true → first_fit (field_checks a stands s bs) ≡ None → WrittenSo stands s bs
-field_only a false s bs B p g = record { ranges = p; bit = ap is_zero (no_move s); bytes = ap (λ v. field_of v ++ bs) (no_move s) }
+field_only a false s bs B p g =
+    let none : s -ℤ s ≡ pos 0 = omega (arith, ints) in
+    record { ranges = p; bit = ap is_zero none; bytes = ap (λ v. field_of v ++ bs) none }
 field_only a true s bs B p g =
-    let c8 = no_fit (check (ltb (length bs) 2) 8 a) (from_ten a s bs) g in
-    let c10 = no_fit (check (is_zero (move_in bs)) 10 a) (from_eleven a s bs) c8.1 in
-    let c11 = no_fit (check (not (in_range (s +ℤ move_in bs))) 11 a) [] c10.1 in
+    let c = none_fits (field_checks a true s bs) g in
+    let back : s +ℤ move_in bs -ℤ s ≡ move_in bs = omega (arith, ints) in
     record {
-      ranges = not-false _ c11.0;
-      bit = ap is_zero (sub_back s (move_in bs)) ∙ c10.0;
-      bytes = ap (λ v. field_of v ++ drop 2 bs) (sub_back s (move_in bs)) ∙ two_or_more s bs B (ltb-false (length bs) 2 c8.0) c10.0;
+      ranges = not-false _ c.1.1.0;
+      bit = ap is_zero back ∙ c.1.0;
+      bytes = ap (λ v. field_of v ++ drop 2 bs) back ∙ two_or_more bs B (ltb-false (length bs) 2 c.0) c.1.0;
     }

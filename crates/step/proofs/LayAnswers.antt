@@ -10,7 +10,7 @@ use Rattle.step.specs.Faults.{place, notice_of_step}
 use Rattle.step.specs.Laying.{check, after_row, rows_checks, with_ends, lay_checks}
 use Rattle.step.specs.Steps.{Step}
 use Rattle.step.specs.declared.faults.StepFault.{StepFault}
-use Rattle.step.proofs.FieldLaws.{fit_none, Bytes}
+use Rattle.step.proofs.FieldLaws.{Bytes}
 use Rattle.step.proofs.StepLaws.{rows_back, rows_only}
 
 pub length_with_ends : (ps : List Point) (bs : List ℕ) → length (with_ends ps bs) ≡ length ps
@@ -38,6 +38,6 @@ pub lay_back : (r : Result (Unit {0}) StepFault) (n : ℕ) (points after qs : Li
 lay_back r n points after qs bs a t h s =
     let b = rows_back 0 (take n points) qs s.0 in
     let g : first_fit (lay_checks n points bs) ≡ None
-    = fit_none (check (ltb (length points) n) 13 (place 0 0)) (rows_checks 0 (take n points) bs) (le-ltb (length points) n h) (ap (λ l. first_fit (rows_checks 0 (take n points) l)) (sym s.1) ∙ b.0) in
+    = rw (le-ltb (length points) n h) (ap (λ l. first_fit (rows_checks 0 (take n points) l)) (sym s.1) ∙ b.0) in
     let ok = was_good r (a ∙ g) in
     (ok, front_of n points after bs h (t ∙ ap (λ v. cond v (onto_front (with_ends (take n points) bs) points) points) ok) ∙ ap (with_ends (take n points)) (sym s.1) ∙ b.1)

@@ -1,8 +1,8 @@
 -- One row: what is written of it reads back, and what is read is what is written.
-use Rattle.std.proofs.Common.{◌≡◌, ℕ, ◌+◌, ◌*◌, ◌/◌, ◌%◌, ◌<◌, Bool, true, false, cond, not, eqb, ltb, List, [], ◌∷◌, ◌++◌, length, drop, ℤ, ◌-ℤ◌, None, sym, refl, ap, ◌∙◌, subst, inl, inr, one-mul, zero-mul, arith}
-use Rattle.std.proofs.Math.Bool.{not-not}
+use Rattle.std.proofs.Common.{◌≡◌, ℕ, ◌+◌, ◌<◌, Bool, true, false, cond, not, eqb, ltb, List, [], ◌∷◌, ◌++◌, length, drop, ℤ, ◌-ℤ◌, None, sym, refl, ap, ◌∙◌, subst, arith}
 use Rattle.std.proofs.lemmas.List.{append_assoc, get_or-drop}
-use Rattle.std.proofs.lemmas.Bool.{cond-true, cond-false, eq-eqb, ne_eqb, eqb-false, cases_eq, ltb-false, and_from, and_parts}
+use Rattle.std.proofs.lemmas.Bool.{ne_eqb, eqb-false, ltb-false, and_from, and_parts}
+use Rattle.std.proofs.lemmas.Bool.Decides.{nat_tests}
 use Rattle.sheet.specs.Checks.{Check, first_fit}
 use Rattle.sheet.specs.Counted.{in_range, counted, within}
 use Rattle.sheet.specs.declared.rows.Coords.{Coords}
@@ -47,32 +47,10 @@ bits a b c = cond a 0 1 + cond b 0 2 + cond c 0 4
 
 -- each bit stands where its axis moves, and there is no other
 map_of : (a b c : Bool) → (bit_stands (bits a b c) 1 ≡ not a) × (bit_stands (bits a b c) 2 ≡ not b) × (bit_stands (bits a b c) 4 ≡ not c) × (ltb 7 (bits a b c) ≡ false)
-map_of true true true = (refl, refl, refl, refl)
-map_of true true false = (refl, refl, refl, refl)
-map_of true false true = (refl, refl, refl, refl)
-map_of true false false = (refl, refl, refl, refl)
-map_of false true true = (refl, refl, refl, refl)
-map_of false true false = (refl, refl, refl, refl)
-map_of false false true = (refl, refl, refl, refl)
-map_of false false false = (refl, refl, refl, refl)
-
-bit_value : (b k : ℕ) → b < 2 → cond (eqb b 0) 0 k ≡ b * k
-bit_value b k h =
-    elim (cases_eq b 0) [
-      | inl e ↦ cond-true _ _ _ (eq-eqb b 0 e) ∙ sym (ap (λ x. x * k) e ∙ zero-mul k)
-      | inr n ↦ let one : b ≡ 1 = omega arith in cond-false _ _ _ (ne_eqb b 0 n) ∙ sym (ap (λ x. x * k) one ∙ one-mul k)
-    ]
-
-eight : (m : ℕ) → m < 8 → m / 1 % 2 * 1 + m / 2 % 2 * 2 + m / 4 % 2 * 4 ≡ m
-eight m h = omega arith
+map_of a b c = (grind arith, grind arith, grind arith, grind arith)
 
 bits_are : (m : ℕ) (a b c : Bool) → m < 8 → a ≡ not (bit_stands m 1) → b ≡ not (bit_stands m 2) → c ≡ not (bit_stands m 4) → bits a b c ≡ m
-bits_are m a b c h p q r =
-    let x : cond a 0 1 ≡ m / 1 % 2 * 1 = ap (λ t. cond t 0 1) (p ∙ not-not (eqb (m / 1 % 2) 0)) ∙ bit_value (m / 1 % 2) 1 (omega arith) in
-    let y : cond b 0 2 ≡ m / 2 % 2 * 2 = ap (λ t. cond t 0 2) (q ∙ not-not (eqb (m / 2 % 2) 0)) ∙ bit_value (m / 2 % 2) 2 (omega arith) in
-    let z : cond c 0 4 ≡ m / 4 % 2 * 4 = ap (λ t. cond t 0 4) (r ∙ not-not (eqb (m / 4 % 2) 0)) ∙ bit_value (m / 4 % 2) 4 (omega arith) in
-    let w = eight m h in
-    omega arith
+bits_are m a b c h p q r = grind (arith, nat_tests)
 
 -- WHAT IS WRITTEN READS BACK
 

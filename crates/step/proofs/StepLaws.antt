@@ -22,10 +22,11 @@ moves_are p q e w =
     let hx = coordinate_of_same q.end.x x.0 in
     let hy = coordinate_of_same q.end.y y.0 in
     let hz = coordinate_of_same q.end.z y.1 in
-    ap (λ v. record { x = v -ℤ coordinate_of q.start.x; y = coordinate_of q.end.y -ℤ coordinate_of q.start.y; z = coordinate_of q.end.z -ℤ coordinate_of q.start.z }) hx
-    ∙ ap (λ v. record { x = q.end.x -ℤ coordinate_of q.start.x; y = v -ℤ coordinate_of q.start.y; z = coordinate_of q.end.z -ℤ coordinate_of q.start.z }) hy
-    ∙ ap (λ v. record { x = q.end.x -ℤ coordinate_of q.start.x; y = q.end.y -ℤ coordinate_of q.start.y; z = v -ℤ coordinate_of q.start.z }) hz
-    ∙ ap (λ s. apart (counted s) q.end) e
+    λ i. record {
+      x = hx i -ℤ coordinate_of (e i).x;
+      y = hy i -ℤ coordinate_of (e i).y;
+      z = hz i -ℤ coordinate_of (e i).z;
+    }
 
 -- WHAT IS WRITTEN READS BACK
 
@@ -39,10 +40,7 @@ rows_back i (p ∷ ps) (q ∷ qs) e =
     = subst (λ v. RowBack i p q.end (moves_record v ++ record_of qs) (record_of qs)) (sym m) (row_back i p q.end (record_of qs) e.1) in
     let more = rows_back (i + 1) ps qs e.2 in (
       none_append (row_checks i p (record_of (q ∷ qs))) (rows_checks (i + 1) ps (after_row (record_of (q ∷ qs)))) b.good (ap (λ r. first_fit (rows_checks (i + 1) ps r)) b.rest ∙ more.0),
-      ap (λ v. record { start = v; end = end_of p (record_of (q ∷ qs)) } ∷ with_ends ps (after_row (record_of (q ∷ qs)))) (sym e.0)
-          ∙ ap (λ v. record { start = q.start; end = v } ∷ with_ends ps (after_row (record_of (q ∷ qs)))) b.end
-          ∙ ap (λ r. q ∷ with_ends ps r) b.rest
-          ∙ ap (λ t. q ∷ t) more.1,
+      (λ j. record { start = sym e.0 j; end = b.end j } ∷ with_ends ps (b.rest j)) ∙ ap (λ t. q ∷ t) more.1,
     )
 
 -- ONLY WHAT IS WRITTEN IS READ
@@ -70,9 +68,7 @@ moves_counted p =
     let hx = coordinate_of_same (coordinate_of p.end.x) (coordinate_of_within p.end.x) in
     let hy = coordinate_of_same (coordinate_of p.end.y) (coordinate_of_within p.end.y) in
     let hz = coordinate_of_same (coordinate_of p.end.z) (coordinate_of_within p.end.z) in
-    ap (λ v. record { x = v -ℤ coordinate_of p.start.x; y = coordinate_of (coordinate_of p.end.y) -ℤ coordinate_of p.start.y; z = coordinate_of (coordinate_of p.end.z) -ℤ coordinate_of p.start.z }) hx
-    ∙ ap (λ v. record { x = coordinate_of p.end.x -ℤ coordinate_of p.start.x; y = v -ℤ coordinate_of p.start.y; z = coordinate_of (coordinate_of p.end.z) -ℤ coordinate_of p.start.z }) hy
-    ∙ ap (λ v. record { x = coordinate_of p.end.x -ℤ coordinate_of p.start.x; y = coordinate_of p.end.y -ℤ coordinate_of p.start.y; z = v -ℤ coordinate_of p.start.z }) hz
+    λ i. record { x = hx i -ℤ coordinate_of p.start.x; y = hy i -ℤ coordinate_of p.start.y; z = hz i -ℤ coordinate_of p.start.z }
 
 pub counted_step : (ps : List Point) → Step ps (record_of ps) (as_counted ps)
 counted_step [] = (tt, refl)
