@@ -36,8 +36,10 @@ pub record ReadBack (a : At) (stands : Bool) (s e : ℤ) (bs r : List ℕ) : Typ
   pub end : end_in stands s bs ≡ e
   pub rest : after_field stands bs ≡ r
 
-pub field_back : (a : At) (s e : ℤ) (r : List ℕ) → in_range s ≡ true → in_range e ≡ true → ReadBack a (not (is_zero (e -ℤ s))) s e (field_of (e -ℤ s) ++ r) r
-field_back a s e r p q = by_zero (is_zero (e -ℤ s)) refl (move_fits s e p q)
+-- a field read where it stands in the record
+pub field_back : (a : At) (stands : Bool) (s e : ℤ) (xs r : List ℕ) → in_range s ≡ true → in_range e ≡ true
+    → stands ≡ not (is_zero (e -ℤ s)) → xs ≡ field_of (e -ℤ s) ++ r → ReadBack a stands s e xs r
+field_back a stands s e xs r p q same bytes = rw (same, bytes) (by_zero (is_zero (e -ℤ s)) refl (move_fits s e p q))
   where
     by_zero : (t : Bool) → is_zero (e -ℤ s) ≡ t → SFits w16 (e -ℤ s) → ReadBack a (not t) s e (cond t [] (word (e -ℤ s) % 256 ∷ (word (e -ℤ s) / 256 % 256 ∷ [])) ++ r) r
     by_zero true z f = record { good = refl; end = zero_move s e f (eqb-true (word (e -ℤ s)) 0 z); rest = refl }

@@ -1,6 +1,5 @@
 pub mod CountedLaws
 pub mod FieldLaws
-pub mod FirstField
 pub mod Fronts
 pub mod LayAnswers
 pub mod LongestRecord

@@ -1,7 +1,7 @@
 use Rattle.std.proofs.Common.{refl, rules, w16, SFits}
 use Rattle.std.proofs.lemmas.Int.{to_z-of_z}
 use Rattle.std.proofs.lemmas.Result.{err_from_is_err_and}
-use Rattle.step.proofs.FirstField.{fields_first}
+use Rattle.sheet.proofs.FirstFit.{first_fit_append}
 use Rattle.step.proofs.rows.read_fields.Goals as goal
 
 pub returns-in_err-x-clause-fault : goal.returns-in_err-x-clause-fault
@@ -9,7 +9,7 @@ returns-in_err-x-clause-fault c =
     let p = err_from_is_err_and c.from_residual.result c.from_residual.ensures.1 in
     let fx : SFits w16 c.args.start.x = search rules in
     let x = simp to_z-of_z at c.in_err-x.ensures.fault in
-    rw (p.1, p.2, fields_first c.args.map c.args.point c.args.start c.args.bytes.now, ← x) refl
+    rw (p.1, p.2, first_fit_append, ← x) refl
 
 pub returns-in_err-y-clause-fault : goal.returns-in_err-y-clause-fault
 returns-in_err-y-clause-fault c =
@@ -18,7 +18,7 @@ returns-in_err-y-clause-fault c =
     let fy : SFits w16 c.args.start.y = search rules in
     let x = simp to_z-of_z at c.in_ok-x.ensures.fault in
     let y = simp (to_z-of_z, c.in_ok-x.ensures.rest) at c.in_err-y.ensures.fault in
-    rw (p.1, p.2, fields_first c.args.map c.args.point c.args.start c.args.bytes.now, ← x, ← y) refl
+    rw (p.1, p.2, first_fit_append, ← x, first_fit_append, ← y) refl
 
 pub returns-in_err-z-clause-fault : goal.returns-in_err-z-clause-fault
 returns-in_err-z-clause-fault c =
@@ -29,7 +29,7 @@ returns-in_err-z-clause-fault c =
     let x = simp to_z-of_z at c.in_ok-x.ensures.fault in
     let y = simp (to_z-of_z, c.in_ok-x.ensures.rest) at c.in_ok-y.ensures.fault in
     let z = simp (to_z-of_z, c.in_ok-y.ensures.rest, c.in_ok-x.ensures.rest) at c.in_err-z.ensures.fault in
-    rw (p.1, p.2, fields_first c.args.map c.args.point c.args.start c.args.bytes.now, ← x, ← y, ← z) refl
+    rw (p.1, p.2, first_fit_append, ← x, first_fit_append, ← y, ← z) refl
 
 pub returns-clause-fault : goal.returns-clause-fault
 returns-clause-fault c =
@@ -39,4 +39,4 @@ returns-clause-fault c =
     let x = simp to_z-of_z at c.in_ok-x.ensures.fault in
     let y = simp (to_z-of_z, c.in_ok-x.ensures.rest) at c.in_ok-y.ensures.fault in
     let z = simp (to_z-of_z, c.in_ok-y.ensures.rest, c.in_ok-x.ensures.rest) at c.in_ok-z.ensures.fault in
-    rw (fields_first c.args.map c.args.point c.args.start c.args.bytes.now, ← x, ← y, ← z) refl
+    rw (first_fit_append, ← x, first_fit_append, ← y, ← z) refl
