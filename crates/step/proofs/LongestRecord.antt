@@ -1,17 +1,13 @@
 -- The longest record that so many points have.
-use Rattle.std.proofs.Common.{◌≡◌, ℕ, zero, suc, ◌*◌, ◌≤◌, Bool, true, false, cond, List, [], ◌∷◌, ◌++◌, length, replicate, ℤ, refl, arith}
+use Rattle.std.proofs.Common.{◌≡◌, ℕ, zero, suc, ◌*◌, ◌≤◌, List, [], ◌∷◌, ◌++◌, length, replicate, ℤ, refl, arith}
 use Rattle.std.proofs.lemmas.List.{length-append}
 use Rattle.sheet.specs.declared.rows.Coords.{Coords}
 use Rattle.sheet.specs.declared.rows.Point.{Point}
 use Rattle.step.specs.Limit.{mover}
-use Rattle.step.specs.Record.{is_zero, field_of, moves_record, moves_of, point_record, record_of}
-
-two_at_most : (b : Bool) (l h : ℕ) → length (cond b [] (l ∷ (h ∷ []))) ≤ 2
-two_at_most true l h = omega arith
-two_at_most false l h = omega arith
+use Rattle.step.specs.Record.{field_of, moves_record, moves_of, point_record, record_of}
 
 field_most : (z : ℤ) → length (field_of z) ≤ 2
-field_most z = two_at_most (is_zero z) _ _
+field_most z = grind arith
 
 moves_most : (m : Coords) → length (moves_record m) ≤ 7
 moves_most m =
