@@ -1,5 +1,5 @@
 -- Which check fits first, of some checks and those after them.
-use Rattle.std.proofs.Common.{◌≡◌, Bool, true, false, cond, List, [], ◌∷◌, ◌++◌, Some, None, Option, refl, ap, ◌∙◌}
+use Rattle.std.proofs.Common.{◌≡◌, Bool, true, false, cond, List, [], ◌∷◌, ◌++◌, Some, None, Option, refl, ap, ◌∙◌, arith}
 use Rattle.std.specs.Option.{option_or}
 use Rattle.sheet.specs.Checks.{Check, first_fit}
 use Rattle.sheet.specs.declared.notices.Notice.{Notice}
@@ -9,11 +9,7 @@ first_fit_append [] ds = refl
 first_fit_append (c ∷ cs) ds = ap (cond c.fits (Some c.tells)) (first_fit_append cs ds) ∙ by_fit c.fits c.tells (first_fit cs) (first_fit ds)
   where
     by_fit : (b : Bool) (n : Notice) (o p : Option Notice) → cond b (Some n) (option_or o p) ≡ option_or (cond b (Some n) o) p
-    by_fit true n o p = refl
-    by_fit false n o p = refl
-
-pub first_of_three : (cs ds es : List Check) → first_fit (cs ++ (ds ++ es)) ≡ option_or (first_fit cs) (option_or (first_fit ds) (first_fit es))
-first_of_three cs ds es = first_fit_append cs (ds ++ es) ∙ ap (option_or (first_fit cs)) (first_fit_append ds es)
+    by_fit b n o p = grind arith
 
 -- of the front none fits
 pub past : (cs ds : List Check) → None ≡ first_fit cs → first_fit ds ≡ first_fit (cs ++ ds)
