@@ -1,7 +1,7 @@
 -- What two frames in memory come to.
 use Rattle.std.proofs.Common.{◌≡◌, ℕ, List, [], ◌∷◌, Some, None, IfSome, unwrap_or, refl, sym, ap, subst, ◌∙◌}
 use Rattle.std.proofs.lemmas.List.{append-nil}
-use Rattle.hosts.specs.Events.{Event, Printed, printed, stored}
+use Rattle.hosts.specs.Events.{Printed, printed, stored}
 use Rattle.hosts.specs.Memory.{Remembers}
 use Rattle.hosts.specs.Pages.{Shows, Filled, NeverFails}
 use Rattle.hosts.specs.Works.{Finished}

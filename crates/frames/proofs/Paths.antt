@@ -1,5 +1,5 @@
 -- The five ways through the work: which frames were read, and what they said.
-use Rattle.std.proofs.Common.{◌≡◌, ℕ, ◌+◌, ◌++◌, List, [], ◌∷◌, take, None, Ok, Err, Result, refl, sym, ap, subst, ◌∙◌, append-nil}
+use Rattle.std.proofs.Common.{◌≡◌, ℕ, ◌+◌, ◌++◌, List, [], ◌∷◌, take, None, Ok, Err, Result, refl, sym, subst, ◌∙◌, append-nil}
 use Rattle.hosts.specs.Events.{Event, Read, Printed, Call, Reading}
 use Rattle.hosts.specs.Traces.{Went, nothing, next}
 use Rattle.hosts.specs.Writing.{Writes}
@@ -10,10 +10,10 @@ use Rattle.sheet.specs.declared.drafts.Draft.{Draft}
 use Rattle.sheet.specs.declared.faults.SheetFault.{SheetFault}
 use Rattle.sheet.specs.declared.rows.Face.{Face}
 use Rattle.sheet.specs.declared.rows.Point.{Point}
-use Rattle.frames.specs.Frames.{Frames, points_of, faces_of}
+use Rattle.frames.specs.Frames.{points_of, faces_of}
 use Rattle.frames.specs.Outcomes.{Outcome, outcome_between, with_line_feed, writes_of}
 use Rattle.frames.specs.Reading.{Says, FrameRead}
-use Rattle.frames.specs.Works.{ReadsFrames, Records}
+use Rattle.frames.specs.Works.{Records}
 use Rattle.frames.specs.declared.frame_files.FrameFile.{FrameFile}
 use Rattle.frames.specs.declared.frame_files.FrameFile.TheVariants.{Start, End}
 use Rattle.frames.specs.declared.frame_files.Recording.{Recording}

@@ -1,11 +1,11 @@
 -- Whole texts whose first bytes were read, and then what comes of them was written.
-use Rattle.std.proofs.Common.{◌≡◌, List, [], ◌∷◌, ◌++◌, Some, None, Err, Result, refl, sym, ap, subst, ◌∙◌}
+use Rattle.std.proofs.Common.{◌≡◌, List, [], ◌∷◌, ◌++◌, Some, None, Err, Result, refl, ap, ◌∙◌}
 use Rattle.std.proofs.lemmas.List.{append-nil}
 use Rattle.std.proofs.lemmas.List.Concat.{flat_map-append}
 use Rattle.hosts.specs.Events.{Event, Printed, Call, Reading, files_read, file_read_by}
 use Rattle.hosts.specs.Traces.{Went}
 use Rattle.hosts.specs.Works.{IsFront}
-use Rattle.hosts.specs.Writing.{BeganTo, at_none, Writes, writes, write_of}
+use Rattle.hosts.specs.Writing.{at_none, Writes, writes, write_of}
 use Rattle.hosts.proofs.Fronts.{whole}
 use Rattle.hosts.proofs.Histories.{fits_before}
 use Rattle.hosts.proofs.Working.{worked_after}

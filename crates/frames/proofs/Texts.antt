@@ -1,5 +1,5 @@
 -- What the front of a text says of the whole.
-use Rattle.std.proofs.Common.{◌≡◌, ℕ, ◌+◌, List, length, take, drop, if◌then◌else◌, None, Ok, Err, Result, is_ok, IfOk, sym, ap, ◌∙◌}
+use Rattle.std.proofs.Common.{◌≡◌, ℕ, ◌+◌, List, length, take, drop, if◌then◌else◌, Ok, Err, Result, is_ok, IfOk, sym, ap, ◌∙◌}
 use Rattle.std.proofs.Math.Seq.{take-append_seam}
 use Rattle.sheet.specs.Checks.{first_fit, fault_notice}
 use Rattle.sheet.specs.Faults.{notice_of_sheet}

@@ -1,4 +1,4 @@
-use Rattle.std.proofs.Common.{◌≡◌, [], sym, ◌∙◌}
+use Rattle.std.proofs.Common.{◌≡◌, [], ◌∙◌}
 use Rattle.hosts.specs.Events.{Printed}
 use Rattle.hosts.proofs.Writing.{written_last}
 use Rattle.frames.specs.Outcomes.{with_line_feed}
