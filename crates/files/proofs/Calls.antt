@@ -1,11 +1,11 @@
 -- A work's call by the one on the disk.
-use Rattle.std.proofs.Common.{◌≡◌, ℕ, List, Some, Option, Ok, Err, Result, MatchResult, inl, inr, refl, sym, ap, ◌∙◌, subst}
+use Rattle.std.proofs.Common.{◌≡◌, ℕ, List, Some, Option, Ok, Err, Result, MatchResult, refl, sym, ap, ◌∙◌, subst}
 use Rattle.std.specs.Option.{option_map}
 use Rattle.hosts.specs.Events.{Event, Printed, Stored, Call, Printing, Storing}
 use Rattle.hosts.specs.Traces.{CutOff}
-use Rattle.files.specs.Deeds.{Deed, PrintedOut, Flushed, StoredAt, Task, PrintingOut, Flushing, StoringAt}
+use Rattle.files.specs.Deeds.{Deed, PrintedOut, StoredAt, Task, PrintingOut, StoringAt}
 use Rattle.files.specs.declared.placed.Placed.{Placed}
-use Rattle.files.specs.Placed.{deed_of, call_of, DoesIfAny, FailsIfAny, DoesPlaced, FailsPlaced, TriesToFlush, StopsEarly, at_work}
+use Rattle.files.specs.Placed.{deed_of, call_of, DoesIfAny, FailsIfAny, DoesPlaced, FailsPlaced}
 
 module _ {D P F E : Type 0} (path : P → F → List ℕ) (target : P → Option (List ℕ)) (does : D → Deed F → D → Type 0) (fails : D → Task F → E → D → Type 0) where
   call_placed : {X : Type 0} (s t : Placed D P) (event : List ℕ → Event F) (call : Call F) (deed : List ℕ → Deed F) (task : Task F) (given bytes : List ℕ) (r : Result X E)
@@ -34,13 +34,3 @@ module _ {D P F E : Type 0} (path : P → F → List ℕ) (target : P → Option
       → MatchResult r (λ x. DoesPlaced path target does s (Stored bytes) t) (λ e. CutOff (DoesPlaced path target does) (FailsPlaced path target fails) s Stored Storing bytes e t)
   store_placed s t at given bytes r paths is =
       call_placed s t Stored Storing (StoredAt at) (StoringAt at) given bytes r (λ bs. ap (option_map (λ p. StoredAt p bs)) is) (ap (option_map StoringAt) is) paths
-
-module _ {D P F E X : Type 0} (does : D → Deed F → D → Type 0) (fails : D → Task F → E → D → Type 0) (Works : Placed D P → Result X E → Placed D P → Type 0) (lasts : P → X → List (Deed F)) where
-  tried : {Y : Type 0} (s t : D) (r : Result Y E) → MatchResult r (λ x. does s Flushed t) (λ e. fails s Flushing e t) → TriesToFlush does fails Works lasts s t
-  tried s t (Ok x) did = inl did
-  tried s t (Err e) failed = inr (e, failed)
-
-  -- a work that fails, and then what is held back is let out
-  pub stops_at_work : {Y : Type 0} (s m t : Placed D P) (e : E) (r : Result Y E) → Works s (Err e) m
-      → MatchResult r (λ x. does m.disk Flushed t.disk) (λ e. fails m.disk Flushing e t.disk) → StopsEarly does fails Works lasts s e t
-  stops_at_work s m t e r works flushed = at_work m works (tried m.disk t.disk r flushed)

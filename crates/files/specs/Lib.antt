@@ -1,3 +1,5 @@
 pub mod Deeds
+pub mod Failures
+pub mod Lasts
 pub mod Machines
 pub mod Placed

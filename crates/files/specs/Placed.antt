@@ -1,5 +1,5 @@
 -- A work whose files are placed on a disk, each at a path, and what it stores at a target, if any.
-use Rattle.std.specs.Prelude.{◌≡◌, ℕ, List, ◌⊎◌, Some, None, Option, Ok, Err, Result}
+use Rattle.std.specs.Prelude.{◌≡◌, ℕ, List, ◌⊎◌, Some, None, Option, Ok, Err, Result, IfOk}
 use Rattle.std.specs.Option.{option_map}
 use Rattle.hosts.specs.Events.{Event, Read, Printed, Stored, Call, Reading, Printing, Storing}
 use Rattle.files.specs.Deeds.{Deed, ReadAt, PrintedOut, Flushed, StoredAt, Task, ReadingAt, PrintingOut, Flushing, StoringAt, DoesAll}
@@ -39,23 +39,21 @@ module _ {D P F E : Type 0} (path : P → F → List ℕ) (target : P → Option
 
 -- ---- a whole run: the work, and the last that is done on the disk, which its answer decides
 module _ {D P F E X : Type 0} (does : D → Deed F → D → Type 0) (fails : D → Task F → E → D → Type 0)
-    (Works : Placed D P → Result X E → Placed D P → Type 0) (lasts : P → X → List (Deed F)) where
-  abbrev pub Ends : X → Placed D P → Result X E → Placed D P → Type 0
-  Ends x s r t = DoesAll does fails (lasts s.paths x) s.disk r t.disk
-
+    (lasts : P → X → List (Deed F)) where
   -- what was printed goes out, if that can be done
   abbrev pub TriesToFlush : D → D → Type 0
   TriesToFlush s t = does s Flushed t ⊎ ((e : E) × fails s Flushing e t)
 
-  pub record RunsWell (s : Placed D P) (x : X) (t : Placed D P) : Type 0 where
+  -- after a work that went well the last is done, and its answer stands unless that fails; after one
+  -- that failed its error is answered
+  abbrev pub Ends : Placed D P → Result X E → Result X E → Placed D P → Type 0
+  Ends s (Ok x) r t = DoesAll does fails (lasts s.paths x) s.disk r t.disk × IfOk r (λ y. y ≡ x)
+  Ends s (Err e) r t = TriesToFlush s.disk t.disk × (r ≡ Err e)
+
+  pub record Runs (Works : Placed D P → Result X E → Placed D P → Type 0)
+      (s : Placed D P) (r : Result X E) (t : Placed D P)
+      : Type 0 where
     pub between : Placed D P
-    pub works : Works s (Ok x) between
-    pub ends : Ends x between (Ok x) t
-
-  pub data StopsEarly (s : Placed D P) (e : E) (t : Placed D P) : Type 0 where
-    at_work : (m : Placed D P) → Works s (Err e) m → TriesToFlush m.disk t.disk → StopsEarly s e t
-    at_its_end : (m : Placed D P) (x : X) → Works s (Ok x) m → Ends x m (Err e) t → StopsEarly s e t
-
-  abbrev pub Runs : Placed D P → Result X E → Placed D P → Type 0
-  Runs s (Ok x) t = RunsWell s x t
-  Runs s (Err e) t = StopsEarly s e t
+    pub work : Result X E
+    pub works : Works s work between
+    pub ends : Ends between work r t

@@ -13,7 +13,7 @@ mod reading;
 
 pub use disks::Disk;
 pub use failures::{Failure, Place, tell};
-pub use lasts::{flush_alone, flush_then_keep, keep_then_flush};
+pub use lasts::Last;
 pub use machines::Machine;
-pub use placed::{Placed, Places};
+pub use placed::{Placed, Places, place_name};
 pub use progress::Watched;

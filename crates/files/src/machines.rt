@@ -1,4 +1,5 @@
-// The disk and the terminal of the system. What it does stands in no contract: it is what all others rest on.
+// The disk and the terminal of the system. Of what its calls do nothing stands in a contract: it is what
+// all others rest on.
 ghost use Rattle.std.specs.Prelude.{◌≡◌, ◌+◌, ◌-◌, ◌^◌, ◌≤◌, IfOk, length};
 
 use crate::beside::Beside;

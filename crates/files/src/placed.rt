@@ -1,7 +1,12 @@
 // A disk as the host of a work whose files are placed on it.
 ghost use Rattle.std.specs.Prelude.{◌≡◌, ℕ, List, Some, None, Option, MatchOption};
+ghost use Rattle.files.specs.Deeds.{Deed};
+ghost use Rattle.files.specs.Lasts.{deeds_of};
+ghost use Rattle.files.specs.Failures.{place_name};
 
 use crate::disks::Disk;
+use crate::failures::Place;
+use crate::lasts::{Last, finish};
 use hosts::Host;
 
 /// Where the files of a work lie.
@@ -9,9 +14,14 @@ pub trait Places {
     /// The work's names of the files that it reads.
     type File;
 
+    /// What the work answers.
+    type Answer: Copy;
+
     ghost path_of: { Self → Self.File → List ℕ };
 
     ghost target_of: { Self → Option (List ℕ) };
+
+    ghost lasts_of: { Self → Self.Answer → List (Deed Self.File) };
 
     /// The path of a file.
     fn path(&self, file: Self::File) -> &str
@@ -21,6 +31,22 @@ pub trait Places {
     fn target(&self) -> Option<&str>
         ensures { MatchOption result (target_of self.now ≡ None)
             (λ path. target_of self.now ≡ Some path.now) };
+
+    /// The last that is done after a work that answers so.
+    fn last(&self, answer: Self::Answer) -> Last<'_>
+        ensures { deeds_of result ≡ lasts_of self.now answer };
+}
+
+/// By which name a failure is told.
+pub fn place_name<P: Places>(paths: &P, place: Place<P::File>) -> &str
+    ensures { result.now ≡ place_name P.path_of P.target_of paths.now place }
+{
+    match place {
+        Place::File(file) => paths.path(file),
+        Place::Output => "standard output",
+        Place::Target => paths.target().unwrap_or(""),
+        Place::Memory => "memory",
+    }
 }
 
 /// A disk, and where a work's files lie on it.
@@ -59,6 +85,27 @@ where
         match self.paths.target() {
             Some(path) => self.disk.store(path, bytes),
             None => Ok(()),
+        }
+    }
+}
+
+impl<D: Disk<P::File>, P: Places> Placed<D, P> {
+    ghost use Rattle.files.specs.Placed.{Ends};
+
+    /// Ends a run: does the last after a work that went well; after one that failed lets out what was
+    /// printed, if that can be done, and answers its error.
+    pub fn end(&mut self, work: Result<P::Answer, D::Error>) -> Result<P::Answer, D::Error>
+        ensures { Ends D.does D.fails P.lasts_of self.old work result self.new }
+    {
+        match work {
+            Ok(answer) => {
+                finish(&mut self.disk, self.paths.last(answer))?;
+                Ok(answer)
+            }
+            Err(e) => {
+                let _ = self.disk.flush();
+                Err(e)
+            }
         }
     }
 }

@@ -1,9 +1,7 @@
 pub mod FrameLaws
 pub mod Between
-pub mod Steps
 pub mod Texts
-pub mod Runs
 pub mod Endings
+pub mod Runs
 pub mod Paths
-pub mod Kept
-pub mod Remembered
+pub mod InMemory

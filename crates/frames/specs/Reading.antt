@@ -2,7 +2,6 @@
 use Rattle.std.specs.Prelude.{◌≡◌, ℕ, ◌+◌, List, take, Some, None, Ok, Err, Result}
 use Rattle.hosts.specs.Events.{Event, Read}
 use Rattle.sheet.specs.Faults.{notice_of_sheet}
-use Rattle.sheet.specs.IsSheet.{IsSheet}
 use Rattle.sheet.specs.Sheet.{text_limit, draft_of}
 use Rattle.sheet.specs.declared.drafts.Draft.{Draft}
 use Rattle.sheet.specs.declared.faults.SheetFault.{SheetFault}
@@ -17,21 +16,16 @@ pub record IsFrame (text : List ℕ) (ps : List Point) (fs : List Face) (d : Dra
   pub draft : d ≡ draft_of text
   pub points : take d.points ps ≡ points_of text
   pub faces : take d.faces fs ≡ faces_of text
-  pub is_sheet : IsSheet (points_of text) (faces_of text)
 
 abbrev pub Says : List ℕ → List Point → List Face → Result Draft SheetFault → Type 0
 Says text ps fs (Ok d) = IsFrame text ps fs d
 Says text ps fs (Err fault) = frame_fault text ≡ Some (notice_of_sheet fault)
 
--- the whole text says so, whatever it has past what came
-abbrev pub ReadsFrame : List ℕ → List Point → List Face → Result Draft SheetFault → Type 0
-ReadsFrame came ps fs read =
-    (text : List ℕ) → came ≡ take (text_limit + 1) text → Says text ps fs read
-
--- the file was read once, up to one byte past the longest text, and what came says so
+-- the file was read once, up to one byte past the longest text, and so says the whole text, whatever
+-- it has past what came
 pub record FrameRead {S : Type 0} (does : S → Event FrameFile → S → Type 0) (file : FrameFile)
     (s : S) (ps : List Point) (fs : List Face) (read : Result Draft SheetFault) (t : S)
     : Type 0 where
   pub came : List ℕ
   pub did : does s (Read file (text_limit + 1) came) t
-  pub says : ReadsFrame came ps fs read
+  pub says : (text : List ℕ) → came ≡ take (text_limit + 1) text → Says text ps fs read

@@ -1,5 +1,5 @@
 // Two frames in memory.
-ghost use Rattle.std.specs.Prelude.{◌≡◌, ◌+◌, ◌-◌, ◌^◌, ◌≤◌, [], length, take, drop, min, IfSome, unwrap_or};
+ghost use Rattle.std.specs.Prelude.{◌≡◌, ◌+◌, ◌-◌, ◌^◌, ◌≤◌, [], length, min, IfSome, unwrap_or};
 ghost use Rattle.hosts.specs.Pages.{onto_page, Filled};
 ghost use Rattle.step.specs.Steps.{Step};
 ghost use Rattle.frames.specs.Frames.{frames, points_of, step_between};
@@ -9,8 +9,7 @@ ghost use Rattle.frames.specs.Memory.{frames_in};
 use crate::frame_files::{FrameFile, Recording};
 use crate::recording::record_step;
 use crate::tables::Tables;
-use hosts::{Host, Page, copy_front};
-use std::convert::Infallible;
+use hosts::{Files, Memory, Page, read_front};
 
 /// What comes of two frames, and how long its line and its record are.
 #[derive(Clone, Copy, Debug, PartialEq, Eq)]
@@ -20,57 +19,32 @@ pub struct Recorded {
     pub record_len: usize,
 }
 
-/// What is left to read of two texts, and a page each for what is stored and for what is printed.
+/// What is left to read of two texts.
 #[derive(Drop)]
-struct Memory<'a, 'b, 'c, 'd, 'p, 'q> {
+struct FrameTexts<'a, 'b> {
     start: &'a [u8],
     end: &'b [u8],
-    kept: &'c mut Page<'p>,
-    line: &'d mut Page<'q>,
 }
 
-impl Host for Memory<'_, '_, '_, '_, '_, '_> {
-    ghost use Rattle.frames.specs.Memory.{HoldsMore, NeverFails};
+impl Files for FrameTexts<'_, '_> {
+    ghost use Rattle.frames.specs.Frames.{text_of};
+    ghost use Rattle.frames.specs.Memory.{frames_in};
+    ghost use Rattle.frames.specs.Works.{same_file};
 
     type File = FrameFile;
 
-    type Error = Infallible;
+    ghost same = { same_file };
 
-    ghost does = { HoldsMore };
+    ghost left = { λ t. text_of (frames_in t) };
 
-    ghost fails = { NeverFails };
+    ghost most = { λ t. length t.start.now + length t.end.now };
 
-    ghost most = { λ m. length m.start.now + length m.end.now };
-
-    #[tactic(auto, using(crate::proofs::Kept::start_read, crate::proofs::Kept::end_read))]
-    fn fill(&mut self, file: FrameFile, buf: &mut [u8]) -> Result<usize, Infallible> {
+    fn read_on(&mut self, file: FrameFile, buf: &mut [u8]) -> usize {
         match file {
-            FrameFile::Start => Ok(read_on(&mut self.start, buf)),
-            FrameFile::End => Ok(read_on(&mut self.end, buf)),
+            FrameFile::Start => read_front(&mut self.start, buf),
+            FrameFile::End => read_front(&mut self.end, buf),
         }
     }
-
-    #[tactic(auto, using(crate::proofs::Kept::line_printed))]
-    fn print(&mut self, bytes: &[u8]) -> Result<(), Infallible> {
-        self.line.print(bytes)
-    }
-
-    #[tactic(auto, using(crate::proofs::Kept::record_kept))]
-    fn store(&mut self, bytes: &[u8]) -> Result<(), Infallible> {
-        self.kept.print(bytes)
-    }
-}
-
-/// Reads on in a text until the buffer is full or the text ends: how many bytes came.
-fn read_on(text: &mut &[u8], buf: &mut [u8]) -> usize
-    ensures few { result ≤ length buf.old }
-    ensures less { length text.new.now + result ≤ length text.old.now }
-    ensures came { take result buf.new ≡ take (length buf.old) text.old.now }
-    ensures left { text.new.now ≡ drop (length buf.old) text.old.now }
-{
-    let n = copy_front(text, buf);
-    *text = &text[n..];
-    n
 }
 
 /// Records the step between two frames in memory: puts the record and the line into the front of
@@ -98,10 +72,9 @@ pub fn record_frames(
     let mut kept = Page::new(bytes);
     let mut line = Page::new(line);
     let mut memory = Memory {
-        start,
-        end,
-        kept: &mut kept,
-        line: &mut line,
+        files: FrameTexts { start, end },
+        printed: &mut line,
+        stored: &mut kept,
     };
     let answer = record_in(tables, &mut memory);
     Recorded {
@@ -112,17 +85,21 @@ pub fn record_frames(
 }
 
 /// Records the step between two frames that are still to be read.
-fn record_in(tables: &mut Tables, memory: &mut Memory<'_, '_, '_, '_, '_, '_>) -> Recording
-    ensures answer { let f = frames_in memory.old in
+#[tactic(auto, using(crate::proofs::InMemory::answered, crate::proofs::InMemory::meant, hosts::proofs::Remembering::same_printed, hosts::proofs::Remembering::same_stored))]
+fn record_in(
+    tables: &mut Tables,
+    memory: &mut Memory<'_, '_, '_, '_, FrameTexts<'_, '_>>,
+) -> Recording
+    ensures answer { let f = frames_in memory.old.files in
         result ≡ (outcome f).answer }
-    ensures line { let f = frames_in memory.old in
-        Filled memory.old.line.now memory.new.line.now (with_line_feed (outcome f).line) }
-    ensures kept { let f = frames_in memory.old in
-        Filled memory.old.kept.now memory.new.kept.now (unwrap_or (outcome f).record_stored []) }
-    ensures means { let f = frames_in memory.old in
+    ensures line { let f = frames_in memory.old.files in
+        Filled memory.old.printed.now memory.new.printed.now (with_line_feed (outcome f).line) }
+    ensures kept { let f = frames_in memory.old.files in
+        Filled memory.old.stored.now memory.new.stored.now (unwrap_or (outcome f).record_stored []) }
+    ensures means { let f = frames_in memory.old.files in
         IfSome (outcome f).record_stored (λ bs. Step (points_of f.start) bs (step_between f)) }
-    ensures same_kept { memory.new.kept.ghost_name ≡ memory.old.kept.ghost_name }
-    ensures same_line { memory.new.line.ghost_name ≡ memory.old.line.ghost_name }
+    ensures same_line { memory.new.printed.ghost_name ≡ memory.old.printed.ghost_name }
+    ensures same_kept { memory.new.stored.ghost_name ≡ memory.old.stored.ghost_name }
 {
     match record_step(tables, memory) {
         Ok(answer) => answer,

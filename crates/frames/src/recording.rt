@@ -85,6 +85,7 @@ fn record_between<H: Host>(
 }
 
 /// Stores the record of these rows, which are the draft's points, and then tells it.
+#[tactic(auto, using(hosts::proofs::Writing::store_stops))]
 fn record_rows<H: Host>(
     draft: &Draft,
     rows: &[Point],

@@ -1,5 +1,5 @@
 // Telling what comes of two frames.
-ghost use Rattle.std.specs.Prelude.{[], ◌∷◌, ◌≤◌, length};
+ghost use Rattle.std.specs.Prelude.{◌≡◌, [], ◌∷◌, ◌≤◌, length};
 ghost use Rattle.hosts.specs.Events.{Printed};
 ghost use Rattle.hosts.specs.Writing.{Writes};
 ghost use Rattle.sheet.specs.Faults.{notice_of_sheet};
@@ -13,6 +13,7 @@ use hosts::Host;
 use sheet::SheetFault;
 
 /// Prints a line, and answers what came.
+#[tactic(auto, using(hosts::proofs::Writing::print_stops))]
 pub(crate) fn tell<H: Host>(
     line: &str,
     came: Recording,
@@ -22,11 +23,18 @@ pub(crate) fn tell<H: Host>(
     ensures { let text = with_line_feed line.now in
         Writes H.does H.fails (Printed text ∷ []) came host.old result host.new }
 {
-    let mut text = ArrayString::<74>::new();
+    host.print(with_line_feed(line).as_str().as_bytes())?;
+    Ok(came)
+}
+
+fn with_line_feed(line: &str) -> ArrayString<74>
+    requires { length line.now ≤ 73 }
+    ensures { result.bytes ≡ with_line_feed line.now }
+{
+    let mut text = ArrayString::new();
     text.push_str(line);
     text.push_str("\n");
-    host.print(text.as_str().as_bytes())?;
-    Ok(came)
+    text
 }
 
 /// Prints the line of a frame's fault.

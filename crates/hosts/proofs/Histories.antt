@@ -1,9 +1,10 @@
 -- Events one after another.
-use Rattle.std.proofs.Common.{◌≡◌, ◌+◌, Bool, false, if◌then◌else◌, List, [], ◌∷◌, ◌++◌, All, refl, sym, ap, ◌∙◌, subst, append_assoc, zero-add}
+use Rattle.std.proofs.Common.{◌≡◌, ℕ, ◌+◌, Bool, false, if◌then◌else◌, List, [], ◌∷◌, ◌++◌, take, All, refl, sym, ap, ◌∙◌, subst, append_assoc, zero-add, add-zero}
 use Rattle.std.proofs.lemmas.List.{append-nil}
-use Rattle.std.proofs.lemmas.List.Elements.{All-head, All-tail}
-use Rattle.std.proofs.lemmas.List.Sums.{sum_by-cons}
-use Rattle.hosts.specs.Events.{Event, Read, Printed, Stored, stored, files_read, asked, came, asked_by}
+use Rattle.std.proofs.lemmas.List.Concat.{flat_map-append}
+use Rattle.std.proofs.lemmas.List.Elements.{All-head, All-tail, All-nil}
+use Rattle.std.proofs.lemmas.List.Sums.{sum_by-cons, sum_by-append}
+use Rattle.hosts.specs.Events.{Event, Read, Printed, Stored, stored, files_read, asked, came, asked_by, came_by, Fits}
 use Rattle.hosts.specs.Traces.{Went, nothing, next}
 use Rattle.hosts.specs.Works.{IsPrint}
 
@@ -49,3 +50,11 @@ module _ {F : Type 0} where
     not_came (Read f n bs ∷ es) none =
         ap (λ b. (if b then bs else []) ++ came is es) (All-head (λ f. is f ≡ false) f (files_read es) none)
         ∙ not_came es (All-tail (λ f. is f ≡ false) f (files_read es) none)
+
+  -- what reads nothing changes nothing of what came before it
+  pub fits_before : (same : F → F → Bool) (bytes_of : F → List ℕ) (reads es : List (Event F)) → files_read es ≡ [] → Fits same bytes_of (reads ++ es) → Fits same bytes_of reads
+  fits_before same bytes_of reads es none h f =
+      let is = same f in
+      let other : All (λ g. is g ≡ false) (files_read es) = subst (All (λ g. is g ≡ false)) (sym none) (All-nil (λ g. is g ≡ false)) in
+      sym (flat_map-append (came_by is) reads es ∙ ap (λ bs. came is reads ++ bs) (not_came is es other) ∙ append-nil (came is reads)) ∙ h f
+      ∙ ap (λ k. take k (bytes_of f)) (sum_by-append (asked_by is) reads es ∙ ap (λ k. asked is reads + k) (not_asked is es other) ∙ add-zero (asked is reads))

@@ -6,7 +6,7 @@ use Rattle.std.proofs.lemmas.List.Concat.{flat_map-append}
 use Rattle.hosts.specs.Events.{Event, Printed, printed, printed_by, Call, Printing}
 use Rattle.hosts.specs.Traces.{nothing, next, CutOff}
 use Rattle.hosts.specs.Works.{IsPrint, IsPrintedInPart, Stopped, Prints}
-use Rattle.hosts.proofs.Histories.{went_on}
+use Rattle.hosts.proofs.Working.{worked_after, cut_stops}
 
 module _ {S F E : Type 0} (does : S → Event F → S → Type 0) (fails : S → Call F → E → S → Type 0) where
   -- one call
@@ -20,14 +20,9 @@ module _ {S F E : Type 0} (does : S → Event F → S → Type 0) (fails : S →
         good = record { alone = All-cons IsPrint (Printed bytes) [] tt (All-nil IsPrint); whole = append-nil bytes };
       }
   printed_at_once s t bytes (Err e) c =
-      record {
-        events = Printed c.front ∷ [];
-        call = Printing;
-        before = c.before;
-        went = next (Printed c.front) nothing c.did;
-        failed = c.failed;
-        part = record { alone = All-cons IsPrint (Printed c.front) [] tt (All-nil IsPrint); rest = c.rest; parts = c.parts ∙ ap (λ bs. bs ++ c.rest) (sym (append-nil c.front)); failed = refl };
-      }
+      cut_stops does fails (IsPrintedInPart bytes) s t Printed Printing bytes e
+      (λ front rest parts.
+      record { alone = All-cons IsPrint (Printed front) [] tt (All-nil IsPrint); rest = rest; parts = parts ∙ ap (λ bs. bs ++ rest) (sym (append-nil front)); failed = refl }) c
 
   -- no call
   pub nothing_printed : {X : Type 0} (s : S) (x : X) → Prints {E = E} does fails [] s (Ok x) s
@@ -36,39 +31,25 @@ module _ {S F E : Type 0} (does : S → Event F → S → Type 0) (fails : S →
   -- one text after another
   pub printed_then : {X Y : Type 0} (s t u : S) (first second : List ℕ) (x : X) (r : Result Y E)
       → Prints does fails first s (Ok x) t → Prints does fails second t r u → Prints does fails (first ++ second) s r u
-  printed_then s t u first second x (Ok y) p q =
+  printed_then s t u first second x r p q =
+      worked_after does fails _ _ _ _ s t u p.events r p.went
+      (λ es y g. record { alone = All-append IsPrint p.events es p.good.alone g.alone; whole = flat_map-append printed_by p.events es ∙ (λ i. p.good.whole i ++ g.whole i) })
+      (λ es call g.
       record {
-        events = p.events ++ q.events;
-        went = went_on does s t u p.events q.events p.went q.went;
-        good = record {
-          alone = All-append IsPrint p.events q.events p.good.alone q.good.alone;
-          whole = flat_map-append printed_by p.events q.events ∙ (λ i. p.good.whole i ++ q.good.whole i);
-        };
-      }
-  printed_then s t u first second x (Err e) p q =
-      record {
-        events = p.events ++ q.events;
-        call = q.call;
-        before = q.before;
-        went = went_on does s t q.before p.events q.events p.went q.went;
-        failed = q.failed;
-        part = record {
-          alone = All-append IsPrint p.events q.events p.good.alone q.part.alone;
-          rest = q.part.rest;
-          parts =
-              let before = printed p.events in
-              let after = printed q.events in
-              ap (λ bs. bs ++ second) (sym p.good.whole) ∙ ap (λ bs. before ++ bs) q.part.parts ∙ sym (append_assoc before after q.part.rest)
-              ∙ ap (λ bs. bs ++ q.part.rest) (sym (flat_map-append printed_by p.events q.events));
-          failed = q.part.failed;
-        };
-      }
+        alone = All-append IsPrint p.events es p.good.alone g.alone;
+        rest = g.rest;
+        parts =
+            (λ i. sym p.good.whole i ++ g.parts i) ∙ sym (append_assoc (printed p.events) (printed es) g.rest)
+            ∙ ap (λ bs. bs ++ g.rest) (sym (flat_map-append printed_by p.events es));
+        failed = g.failed;
+      }) q
 
   -- where the first fails, all does
-  pub printed_no_further : (X Y : Type 0) (s t : S) (first second : List ℕ) (e : E)
-      → Prints {X = X} does fails first s (Err e) t → Prints {X = Y} does fails (first ++ second) s (Err e) t
-  printed_no_further X Y s t first second e p =
-      record {
+  pub printed_short : {Y : Type 0} (s t : S) (first second : List ℕ) (e : E) (r : Result Y E)
+      → Stopped does fails (IsPrintedInPart first) s e t → r ≡ Err e → Prints does fails (first ++ second) s r t
+  printed_short s t first second e r p is =
+      subst (λ r. Prints does fails (first ++ second) s r t) (sym is)
+      (record {
         events = p.events;
         call = p.call;
         before = p.before;
@@ -80,9 +61,4 @@ module _ {S F E : Type 0} (does : S → Event F → S → Type 0) (fails : S →
           parts = ap (λ bs. bs ++ second) p.part.parts ∙ append_assoc (printed p.events) p.part.rest second;
           failed = p.part.failed;
         };
-      }
-
-  pub printed_short : {Y : Type 0} (s t : S) (first second : List ℕ) (e : E) (r : Result Y E)
-      → Stopped does fails (IsPrintedInPart first) s e t → r ≡ Err e → Prints does fails (first ++ second) s r t
-  printed_short {Y} s t first second e r p is =
-      subst (λ r. Prints does fails (first ++ second) s r t) (sym is) (printed_no_further Y Y s t first second e p)
+      })

@@ -2,8 +2,8 @@
 use Rattle.std.proofs.Common.{◌≡◌, List, [], ◌∷◌, ◌++◌, ℕ, Ok, Err, Result, refl, sym, ap, subst}
 use Rattle.hosts.specs.Events.{Event, Read, Printed, Stored, Call, Printing, Storing, files_read, printed, stored}
 use Rattle.hosts.specs.Traces.{nothing, next, CutOff}
-use Rattle.hosts.specs.Writing.{BeganTo, at_none, in_a_print, in_a_store, after_print, after_store, Writes, writes}
-use Rattle.hosts.proofs.Histories.{went_first}
+use Rattle.hosts.specs.Writing.{BeganTo, at_none, in_a_print, in_a_store, after_print, after_store, IsWrittenInPart, Writes, writes}
+use Rattle.hosts.proofs.Working.{worked_after, cut_stops}
 
 module _ {F : Type 0} where
   -- what is begun reads nothing
@@ -40,40 +40,23 @@ module _ {S F E : Type 0} (does : S → Event F → S → Type 0) (fails : S →
     written_last t e d = record { events = e ∷ []; went = next e nothing d; good = record { writes = refl; answers = refl } }
 
     pub stored_then : (t u : S) (bytes : List ℕ) (r : Result X E) → does s (Stored bytes) t → Writes does fails all answer t r u → Writes does fails (Stored bytes ∷ all) answer s r u
-    stored_then t u bytes (Ok x) d w =
-        record {
-          events = Stored bytes ∷ w.events;
-          went = went_first does (Stored bytes) d w.went;
-          good = record { writes = λ i. Stored bytes ∷ w.good.writes i; answers = w.good.answers };
-        }
-    stored_then t u bytes (Err err) d w =
-        record {
-          events = Stored bytes ∷ w.events;
-          call = w.call;
-          before = w.before;
-          went = went_first does (Stored bytes) d w.went;
-          failed = w.failed;
-          part = record { part = after_store bytes w.part.part; no_read = w.part.no_read };
-        }
+    stored_then t u bytes r d =
+        worked_after does fails _ _ _ _ s t u (Stored bytes ∷ []) r (next (Stored bytes) nothing d)
+        (λ es x w. record { writes = λ i. Stored bytes ∷ w.writes i; answers = w.answers }) (λ es call w. record { part = after_store bytes w.part; no_read = w.no_read })
 
     pub print_cut : (t : S) (bytes : List ℕ) (e : E) → CutOff does fails s Printed Printing bytes e t → Writes does fails (Printed bytes ∷ all) answer s (Err e) t
-    print_cut t bytes e c =
-        record {
-          events = Printed c.front ∷ [];
-          call = Printing;
-          before = c.before;
-          went = next (Printed c.front) nothing c.did;
-          failed = c.failed;
-          part = record { part = subst (λ bs. BeganTo (Printed bs ∷ all) (Printed c.front ∷ [])) (sym c.parts) (in_a_print c.front c.rest); no_read = refl };
-        }
+    print_cut t bytes e =
+        cut_stops does fails (IsWrittenInPart (Printed bytes ∷ all)) s t Printed Printing bytes e
+        (λ front rest parts. record { part = subst (λ bs. BeganTo (Printed bs ∷ all) (Printed front ∷ [])) (sym parts) (in_a_print front rest); no_read = refl })
 
     pub store_cut : (t : S) (bytes : List ℕ) (e : E) → CutOff does fails s Stored Storing bytes e t → Writes does fails (Stored bytes ∷ all) answer s (Err e) t
-    store_cut t bytes e c =
-        record {
-          events = Stored c.front ∷ [];
-          call = Storing;
-          before = c.before;
-          went = next (Stored c.front) nothing c.did;
-          failed = c.failed;
-          part = record { part = subst (λ bs. BeganTo (Stored bs ∷ all) (Stored c.front ∷ [])) (sym c.parts) (in_a_store c.front c.rest); no_read = refl };
-        }
+    store_cut t bytes e =
+        cut_stops does fails (IsWrittenInPart (Stored bytes ∷ all)) s t Stored Storing bytes e
+        (λ front rest parts. record { part = subst (λ bs. BeganTo (Stored bs ∷ all) (Stored front ∷ [])) (sym parts) (in_a_store front rest); no_read = refl })
+
+    -- cut off, and the error is answered
+    pub print_stops : (t : S) (bytes text : List ℕ) (e : E) (r : Result X E) → CutOff does fails s Printed Printing bytes e t → bytes ≡ text → r ≡ Err e → Writes does fails (Printed text ∷ all) answer s r t
+    print_stops t bytes text e r cut is failed = rw (← is, failed) (print_cut t bytes e cut)
+
+    pub store_stops : (t : S) (bytes whole : List ℕ) (e : E) (r : Result X E) → CutOff does fails s Stored Storing bytes e t → bytes ≡ whole → r ≡ Err e → Writes does fails (Stored whole ∷ all) answer s r t
+    store_stops t bytes whole e r cut is failed = rw (← is, failed) (store_cut t bytes e cut)

@@ -1,5 +1,5 @@
 -- What a work does over its host, and what has come of it.
-use Rattle.std.specs.Prelude.{◌≡◌, ℕ, Bool, if◌then◌else◌, List, [], ◌∷◌, take, flat_map}
+use Rattle.std.specs.Prelude.{◌≡◌, ℕ, Bool, if◌then◌else◌, List, [], ◌∷◌, take, drop, flat_map}
 use Rattle.std.specs.List.{sum_by}
 
 pub data Event (F : Type 0) : Type 0 where
@@ -69,3 +69,10 @@ module _ {F : Type 0} (is : F → Bool) where
 -- each file has given its first bytes, as many as were asked for, or all where it has fewer
 abbrev pub Fits : {F : Type 0} → (F → F → Bool) → (F → List ℕ) → List (Event F) → Type 0
 Fits {F} same bytes_of es = (f : F) → came (same f) es ≡ take (asked (same f) es) (bytes_of f)
+
+-- what an event takes of a file comes from the front of what was left of it before
+pub record Takes {F : Type 0} (same : F → F → Bool) (before : F → List ℕ) (e : Event F)
+    (after : F → List ℕ)
+    : Type 0 where
+  pub came : (f : F) → came_by (same f) e ≡ take (asked_by (same f) e) (before f)
+  pub left : (f : F) → after f ≡ drop (asked_by (same f) e) (before f)

@@ -1,4 +1,5 @@
 pub mod Events
+pub mod Memory
 pub mod Pages
 pub mod Traces
 pub mod Works

@@ -23,11 +23,14 @@ pub record Shows (lent : MutBor (List ℕ)) (text : List ℕ) (p : Page) : Type 
 abbrev pub Filled : Page → Page → List ℕ → Type 0
 Filled p q text = (lent : MutBor (List ℕ)) → Shows lent [] p → Shows lent text q
 
--- whatever is shown, what is printed comes behind it; what is stored is let go
-abbrev pub ShowsMore : Page → Event (Unit {0}) → Page → Type 0
-ShowsMore p e q =
-    (lent : MutBor (List ℕ)) (text : List ℕ)
-    → Shows lent text p → Shows lent (text ++ printed_by e) q
+-- whatever was shown, this text comes behind it
+abbrev pub ShowsBehind : Page → List ℕ → Page → Type 0
+ShowsBehind p text q =
+    (lent : MutBor (List ℕ)) (before : List ℕ) → Shows lent before p → Shows lent (before ++ text) q
 
-abbrev pub NeverFails : Page → Call (Unit {0}) → Infallible → Page → Type 0
-NeverFails p call e q = ⊥
+-- what is printed is shown; what is stored is let go
+abbrev pub ShowsMore : Page → Event (Unit {0}) → Page → Type 0
+ShowsMore p e q = ShowsBehind p (printed_by e) q
+
+abbrev pub NeverFails : {S F : Type 0} → S → Call F → Infallible → S → Type 0
+NeverFails s call e t = ⊥

@@ -3,8 +3,10 @@
 
 mod copying;
 mod hosts;
+mod memories;
 mod pages;
 
 pub use copying::copy_front;
 pub use hosts::Host;
+pub use memories::{Files, Memory, read_front};
 pub use pages::Page;

@@ -15,7 +15,7 @@ pub struct Page<'a> {
 
 impl<'a> Page<'a> {
     ghost use Rattle.std.specs.Prelude.{[]};
-    ghost use Rattle.hosts.specs.Pages.{Shows, printed_len};
+    ghost use Rattle.hosts.specs.Pages.{Shows, ShowsBehind, printed_len};
 
     /// Shows nothing yet.
     pub fn new(bytes: &'a mut [u8]) -> Page<'a>
@@ -29,6 +29,14 @@ impl<'a> Page<'a> {
         ensures { result ≡ printed_len self.now }
     {
         self.len
+    }
+
+    /// Shows these bytes behind what is shown.
+    pub(crate) fn show(&mut self, bytes: &[u8])
+        ensures { ShowsBehind self.old bytes.now self.new }
+    {
+        put(self.bytes, self.len, bytes);
+        self.len = self.len.saturating_add(bytes.len());
     }
 }
 
@@ -51,8 +59,7 @@ impl Host for Page<'_> {
     }
 
     fn print(&mut self, bytes: &[u8]) -> Result<(), Infallible> {
-        put(self.bytes, self.len, bytes);
-        self.len = self.len.saturating_add(bytes.len());
+        self.show(bytes);
         Ok(())
     }
 

@@ -1,9 +1,10 @@
 -- Where a plan's files lie.
-use Rattle.std.specs.Prelude.{◌≡◌, ℕ, List, [], Option, codes, string_bytes}
-use Rattle.std.specs.Option.{option_map, unwrap_or}
+use Rattle.std.specs.Prelude.{◌≡◌, ℕ, List, [], ◌∷◌, Option, codes, string_bytes}
+use Rattle.std.specs.Option.{option_map, option_to_list}
 use Rattle.std.specs.Path.{path_join, path_buf_bytes}
-use Rattle.files.specs.declared.failures.Place.{Place}
-use Rattle.files.specs.declared.failures.Place.TheVariants.{File, Output, Target, Memory}
+use Rattle.files.specs.Deeds.{Deed, Flushed, Kept}
+use Rattle.printout.specs.declared.endings.Ending.{Ending}
+use Rattle.printout.specs.declared.endings.Ending.TheVariants.{Complete, Faulty}
 use Rattle.printout.specs.declared.plan_files.PlanFile.{PlanFile}
 use Rattle.printout.specs.declared.plan_files.PlanFile.TheVariants.{Sheet, Step, Pairs}
 use Rattle.plans.specs.declared.paths.Paths.{Paths}
@@ -26,9 +27,7 @@ refused_path p = option_map string_bytes p.refused
 abbrev pub AreIn : List ℕ → Paths → Type 0
 AreIn folder p = (f : PlanFile) → path_of p f ≡ path_join folder (file_name f)
 
--- by which name a failure is told
-abbrev pub place_name : Paths → Place PlanFile → List ℕ
-place_name p (File f) = path_of p f
-place_name p Output = codes "standard output"
-place_name p Target = unwrap_or (refused_path p) []
-place_name p Memory = codes "memory"
+-- all that is printed goes out, and then, where all was inspected, what was stored is kept
+abbrev pub lasts : Paths → Ending → List (Deed PlanFile)
+lasts p Complete = Flushed ∷ option_to_list (option_map Kept (refused_path p))
+lasts p Faulty = Flushed ∷ []

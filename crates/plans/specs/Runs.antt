@@ -1,7 +1,6 @@
 -- A whole run over a folder.
-use Rattle.std.specs.Prelude.{ℕ, List, [], ◌∷◌, Ok, Err, Result}
-use Rattle.std.specs.Option.{option_map, option_to_list}
-use Rattle.files.specs.Deeds.{Deed, Flushed, Kept, Task}
+use Rattle.std.specs.Prelude.{ℕ, Ok, Err, Result}
+use Rattle.files.specs.Deeds.{Deed, Task}
 use Rattle.files.specs.Placed.{DoesPlaced, FailsPlaced, Runs}
 use Rattle.files.specs.declared.placed.Placed.{Placed}
 use Rattle.printout.specs.declared.plan_files.PlanFile.{PlanFile}
@@ -9,19 +8,13 @@ use Rattle.printout.specs.declared.endings.Ending.{Ending}
 use Rattle.printout.specs.declared.endings.Ending.TheVariants.{Complete, Faulty}
 use Rattle.printout.specs.Outcomes.{Inspects}
 use Rattle.plans.specs.declared.paths.Paths.{Paths}
-use Rattle.plans.specs.PlanPaths.{path_of, refused_path}
-
--- all that is printed goes out, and then, where all was inspected, what was stored is kept
-abbrev pub lasts : Paths → Ending → List (Deed PlanFile)
-lasts p Complete = Flushed ∷ option_to_list (option_map Kept (refused_path p))
-lasts p Faulty = Flushed ∷ []
+use Rattle.plans.specs.PlanPaths.{path_of, refused_path, lasts}
 
 abbrev pub InspectsFolder : {D E : Type 0} → (D → Deed PlanFile → D → Type 0)
     → (D → Task PlanFile → E → D → Type 0) → Placed D Paths → Result Ending E → Placed D Paths → Type 0
 InspectsFolder does fails s r t =
-    Runs does fails
-    (Inspects (DoesPlaced path_of refused_path does) (FailsPlaced path_of refused_path fails))
-    lasts s r t
+    Runs does fails lasts
+    (Inspects (DoesPlaced path_of refused_path does) (FailsPlaced path_of refused_path fails)) s r t
 
 -- the exit status: zero where all was inspected
 abbrev pub status_after : {E : Type 0} → Result Ending E → ℕ

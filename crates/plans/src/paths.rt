@@ -2,8 +2,8 @@
 ghost use Rattle.std.specs.Prelude.{◌≡◌, IfOk};
 ghost use Rattle.plans.specs.PlanPaths.{file_name};
 
-use files::{Place, Places};
-use printout::PlanFile;
+use files::{Last, Places};
+use printout::{Ending, PlanFile};
 use std::alloc::{AllocError, Global};
 use std::path::{Path, PathBuf};
 
@@ -17,7 +17,7 @@ pub struct Paths {
 }
 
 impl Paths {
-    ghost use Rattle.plans.specs.PlanPaths.{AreIn, place_name};
+    ghost use Rattle.plans.specs.PlanPaths.{AreIn};
 
     /// The paths in a folder.
     pub fn in_folder(
@@ -36,28 +36,20 @@ impl Paths {
             refused,
         })
     }
-
-    /// By which name a failure is told.
-    pub fn name(&self, place: Place<PlanFile>) -> &str
-        ensures { result.now ≡ place_name self.now place }
-    {
-        match place {
-            Place::File(file) => self.path(file),
-            Place::Output => "standard output",
-            Place::Target => self.target().unwrap_or(""),
-            Place::Memory => "memory",
-        }
-    }
 }
 
 impl Places for Paths {
-    ghost use Rattle.plans.specs.PlanPaths.{path_of, refused_path};
+    ghost use Rattle.plans.specs.PlanPaths.{path_of, refused_path, lasts};
 
     type File = PlanFile;
+
+    type Answer = Ending;
 
     ghost path_of = { path_of };
 
     ghost target_of = { refused_path };
+
+    ghost lasts_of = { lasts };
 
     fn path(&self, file: PlanFile) -> &str {
         match file {
@@ -71,6 +63,16 @@ impl Places for Paths {
         match &self.refused {
             Some(path) => Some(path.as_str()),
             None => None,
+        }
+    }
+
+    fn last(&self, ending: Ending) -> Last<'_> {
+        match ending {
+            Ending::Complete => match self.target() {
+                Some(path) => Last::FlushThenKeep(path),
+                None => Last::Flush,
+            },
+            Ending::Faulty => Last::Flush,
         }
     }
 }

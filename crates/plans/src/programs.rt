@@ -3,7 +3,7 @@ ghost use Rattle.std.specs.Prelude.{◌≤◌};
 
 use crate::paths::Paths;
 use crate::runs::{inspect_placed, status};
-use files::{Machine, Placed, Watched, tell};
+use files::{Machine, Placed, Watched, place_name, tell};
 use printout::{PlanFile, Tables};
 
 /// What is told on a terminal: how many pairs are done.
@@ -25,7 +25,7 @@ pub fn inspect_folder(rt: &HostRuntime, folder: &str, refused: Option<String>) -
     let disk = match Machine::new(*rt, Some(PAIRS)) {
         Ok(disk) => disk,
         Err(failure) => {
-            tell(rt, paths.name(failure.place), failure.reason);
+            tell(rt, place_name(&paths, failure.place), failure.reason);
             return 1;
         }
     };
@@ -33,7 +33,7 @@ pub fn inspect_folder(rt: &HostRuntime, folder: &str, refused: Option<String>) -
     let mut plan = Placed { disk, paths };
     let run = inspect_placed(&mut tables, &mut plan);
     if let Err(failure) = &run {
-        tell(rt, plan.paths.name(failure.place), failure.reason);
+        tell(rt, place_name(&plan.paths, failure.place), failure.reason);
     }
     status(&run)
 }

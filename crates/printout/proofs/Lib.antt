@@ -1,6 +1,6 @@
 pub mod FileByFile
 pub mod Files
-pub mod Kept
+pub mod InMemory
 pub mod Offers
 pub mod Phases
 pub mod Reported

@@ -1,5 +1,5 @@
 // A plan in memory.
-ghost use Rattle.std.specs.Prelude.{◌≡◌, ◌↔◌, ◌+◌, ◌-◌, ◌^◌, ◌≤◌, length, take, drop, min, None};
+ghost use Rattle.std.specs.Prelude.{◌≡◌, ◌↔◌, ◌+◌, ◌-◌, ◌^◌, ◌≤◌, length, min, None};
 ghost use Rattle.hosts.specs.Pages.{onto_page, Filled};
 ghost use Rattle.printout.specs.Memory.{plan, left_in};
 ghost use Rattle.printout.specs.Plans.{fault, printout, ClaimOfPlan};
@@ -9,8 +9,7 @@ use crate::endings::Ending;
 use crate::plan_files::PlanFile;
 use crate::plans::inspect_plan;
 use crate::tables::Tables;
-use hosts::{Host, Page, copy_front};
-use std::convert::Infallible;
+use hosts::{Files, Memory, Page, read_front};
 
 /// How an inspection of a plan ends, and how long is what it prints and what it stores.
 #[derive(Clone, Copy, Debug, PartialEq, Eq)]
@@ -20,59 +19,34 @@ pub struct Inspected {
     pub stored_len: usize,
 }
 
-/// What is left to read of a plan, and a page each for what is printed and for what is stored.
+/// What is left to read of a plan.
 #[derive(Drop)]
-struct Memory<'a, 'b, 'c, 'p, 'q, 's, 't> {
+struct PlanBytes<'a, 'b, 'c> {
     sheet: &'a [u8],
     step: &'b [u8],
     pairs: &'c [u8],
-    page: &'p mut Page<'q>,
-    refused: &'s mut Page<'t>,
 }
 
-impl Host for Memory<'_, '_, '_, '_, '_, '_, '_> {
-    ghost use Rattle.printout.specs.Memory.{HoldsMore, NeverFails};
+impl Files for PlanBytes<'_, '_, '_> {
+    ghost use Rattle.printout.specs.Memory.{left_in};
+    ghost use Rattle.printout.specs.Outcomes.{same_file};
+    ghost use Rattle.printout.specs.Plans.{bytes_of};
 
     type File = PlanFile;
 
-    type Error = Infallible;
+    ghost same = { same_file };
 
-    ghost does = { HoldsMore };
+    ghost left = { λ b. bytes_of (left_in b) };
 
-    ghost fails = { NeverFails };
+    ghost most = { λ b. length b.sheet.now + length b.step.now + length b.pairs.now };
 
-    ghost most = { λ m. length m.sheet.now + length m.step.now + length m.pairs.now };
-
-    #[tactic(auto, using(crate::proofs::Kept::sheet_read, crate::proofs::Kept::step_read, crate::proofs::Kept::pairs_read))]
-    fn fill(&mut self, file: PlanFile, buf: &mut [u8]) -> Result<usize, Infallible> {
+    fn read_on(&mut self, file: PlanFile, buf: &mut [u8]) -> usize {
         match file {
-            PlanFile::Sheet => Ok(read_on(&mut self.sheet, buf)),
-            PlanFile::Step => Ok(read_on(&mut self.step, buf)),
-            PlanFile::Pairs => Ok(read_on(&mut self.pairs, buf)),
+            PlanFile::Sheet => read_front(&mut self.sheet, buf),
+            PlanFile::Step => read_front(&mut self.step, buf),
+            PlanFile::Pairs => read_front(&mut self.pairs, buf),
         }
     }
-
-    #[tactic(auto, using(crate::proofs::Kept::text_printed))]
-    fn print(&mut self, bytes: &[u8]) -> Result<(), Infallible> {
-        self.page.print(bytes)
-    }
-
-    #[tactic(auto, using(crate::proofs::Kept::pair_stored))]
-    fn store(&mut self, bytes: &[u8]) -> Result<(), Infallible> {
-        self.refused.print(bytes)
-    }
-}
-
-/// Reads on in a text until the buffer is full or the text ends: how many bytes came.
-fn read_on(text: &mut &[u8], buf: &mut [u8]) -> usize
-    ensures few { result ≤ length buf.old }
-    ensures less { length text.new.now + result ≤ length text.old.now }
-    ensures came { take result buf.new ≡ take (length buf.old) text.old.now }
-    ensures left { text.new.now ≡ drop (length buf.old) text.old.now }
-{
-    let n = copy_front(text, buf);
-    *text = &text[n..];
-    n
 }
 
 /// Inspects a plan in memory: puts what is printed, and the pairs that are refused, into the front
@@ -103,11 +77,9 @@ pub fn inspect_bytes(
     let mut page = Page::new(page);
     let mut refused = Page::new(refused);
     let mut memory = Memory {
-        sheet,
-        step,
-        pairs,
-        page: &mut page,
-        refused: &mut refused,
+        files: PlanBytes { sheet, step, pairs },
+        printed: &mut page,
+        stored: &mut refused,
     };
     let ending = inspect_in(tables, &mut memory);
     Inspected {
@@ -118,19 +90,23 @@ pub fn inspect_bytes(
 }
 
 /// Inspects a plan that is still to be read.
-fn inspect_in(tables: &mut Tables, memory: &mut Memory<'_, '_, '_, '_, '_, '_, '_>) -> Ending
-    ensures ending { let p = left_in memory.old in
+#[tactic(auto, using(crate::proofs::InMemory::ended, crate::proofs::InMemory::completed, hosts::proofs::Remembering::same_printed, hosts::proofs::Remembering::same_stored))]
+fn inspect_in(
+    tables: &mut Tables,
+    memory: &mut Memory<'_, '_, '_, '_, PlanBytes<'_, '_, '_>>,
+) -> Ending
+    ensures ending { let p = left_in memory.old.files in
         result ≡ (printout p).ending }
-    ensures page { let p = left_in memory.old in
-        Filled memory.old.page.now memory.new.page.now (printout p).text }
-    ensures refused { let p = left_in memory.old in
-        Filled memory.old.refused.now memory.new.refused.now (printout p).stored }
-    ensures complete { let p = left_in memory.old in
+    ensures page { let p = left_in memory.old.files in
+        Filled memory.old.printed.now memory.new.printed.now (printout p).text }
+    ensures refused { let p = left_in memory.old.files in
+        Filled memory.old.stored.now memory.new.stored.now (printout p).stored }
+    ensures complete { let p = left_in memory.old.files in
         (result ≡ Complete) ↔ (fault p ≡ None) }
-    ensures claim { let p = left_in memory.old in
+    ensures claim { let p = left_in memory.old.files in
         ClaimOfPlan p }
-    ensures same_page { memory.new.page.ghost_name ≡ memory.old.page.ghost_name }
-    ensures same_refused { memory.new.refused.ghost_name ≡ memory.old.refused.ghost_name }
+    ensures same_page { memory.new.printed.ghost_name ≡ memory.old.printed.ghost_name }
+    ensures same_refused { memory.new.stored.ghost_name ≡ memory.old.stored.ghost_name }
 {
     match inspect_plan(tables, memory) {
         Ok(ending) => ending,

@@ -1,6 +1,6 @@
 -- A whole run over two frames.
-use Rattle.std.specs.Prelude.{ℕ, List, [], ◌∷◌, string_bytes, Ok, Err, Result}
-use Rattle.files.specs.Deeds.{Deed, Flushed, Kept, Task}
+use Rattle.std.specs.Prelude.{ℕ, Ok, Err, Result}
+use Rattle.files.specs.Deeds.{Deed, Task}
 use Rattle.files.specs.Placed.{DoesPlaced, FailsPlaced, Runs}
 use Rattle.files.specs.declared.placed.Placed.{Placed}
 use Rattle.frames.specs.declared.frame_files.FrameFile.{FrameFile}
@@ -8,20 +8,14 @@ use Rattle.frames.specs.declared.frame_files.Recording.{Recording}
 use Rattle.frames.specs.declared.frame_files.Recording.TheVariants.{Recorded, Faulty, Different}
 use Rattle.frames.specs.Works.{Records}
 use Rattle.recordings.specs.declared.paths.Paths.{Paths}
-use Rattle.recordings.specs.FramePaths.{path_of, step_path}
-
--- where a record was stored, it is kept, and only then its line goes out
-abbrev pub lasts : Paths → Recording → List (Deed FrameFile)
-lasts p Recorded = Kept (string_bytes p.step) ∷ Flushed ∷ []
-lasts p (Faulty f) = Flushed ∷ []
-lasts p Different = Flushed ∷ []
+use Rattle.recordings.specs.FramePaths.{path_of, step_path, lasts}
 
 abbrev pub RecordsFrames : {D E : Type 0} → (D → Deed FrameFile → D → Type 0)
     → (D → Task FrameFile → E → D → Type 0)
     → Placed D Paths → Result Recording E → Placed D Paths → Type 0
 RecordsFrames does fails s r t =
-    Runs does fails (Records (DoesPlaced path_of step_path does) (FailsPlaced path_of step_path fails))
-    lasts s r t
+    Runs does fails lasts
+    (Records (DoesPlaced path_of step_path does) (FailsPlaced path_of step_path fails)) s r t
 
 -- the exit status: zero where a record was stored
 abbrev pub status_after : {E : Type 0} → Result Recording E → ℕ

@@ -1,8 +1,6 @@
 // Where the frames and the record lie.
-ghost use Rattle.std.specs.Prelude.{◌≡◌};
-
-use files::{Place, Places};
-use frames::FrameFile;
+use files::{Last, Places};
+use frames::{FrameFile, Recording};
 
 /// The paths of the two frames, and of the record.
 #[derive(Drop)]
@@ -12,30 +10,18 @@ pub struct Paths {
     pub step: String,
 }
 
-impl Paths {
-    ghost use Rattle.recordings.specs.FramePaths.{place_name};
-
-    /// By which name a failure is told.
-    pub fn name(&self, place: Place<FrameFile>) -> &str
-        ensures { result.now ≡ place_name self.now place }
-    {
-        match place {
-            Place::File(file) => self.path(file),
-            Place::Output => "standard output",
-            Place::Target => self.step.as_str(),
-            Place::Memory => "memory",
-        }
-    }
-}
-
 impl Places for Paths {
-    ghost use Rattle.recordings.specs.FramePaths.{path_of, step_path};
+    ghost use Rattle.recordings.specs.FramePaths.{path_of, step_path, lasts};
 
     type File = FrameFile;
+
+    type Answer = Recording;
 
     ghost path_of = { path_of };
 
     ghost target_of = { step_path };
+
+    ghost lasts_of = { lasts };
 
     fn path(&self, file: FrameFile) -> &str {
         match file {
@@ -46,5 +32,12 @@ impl Places for Paths {
 
     fn target(&self) -> Option<&str> {
         Some(self.step.as_str())
+    }
+
+    fn last(&self, recording: Recording) -> Last<'_> {
+        match recording {
+            Recording::Recorded => Last::KeepThenFlush(self.step.as_str()),
+            Recording::Faulty(_) | Recording::Different => Last::Flush,
+        }
     }
 }

@@ -1,7 +1,8 @@
-use Rattle.frames.proofs.Remembered.{remembered}
+use Rattle.frames.proofs.InMemory.{line_shown, record_shown}
 use Rattle.frames.proofs.memory.record_in.Goals as goal
 
-pub returns : goal.returns
-returns c =
-    let made = remembered c.args.memory.now c.record_step.new.host c.in-Ok.answer c.in-Ok.ensures in
-    record { answer = made.answer; line = made.line_shown; kept = made.record_shown; means = made.means; same_kept = made.same_kept; same_line = made.same_line }
+pub returns-clause-line : goal.returns-clause-line
+returns-clause-line c = line_shown c.args.memory.now c.record_step.new.host c.in-Ok.answer c.in-Ok.ensures
+
+pub returns-clause-kept : goal.returns-clause-kept
+returns-clause-kept c = record_shown c.args.memory.now c.record_step.new.host c.in-Ok.answer c.in-Ok.ensures

@@ -7,10 +7,8 @@ pub returns-clause-read : goal.returns-clause-read
 returns-clause-read g c =
     let came = take c.in_ok-count.count c.fill.new.buf in
     let read = c.read_sheet.ensures in
-    let asked = subst (λ n. g.H.Host.does c.args.host.now (Read c.args.file n came) c.fill.new.self) c.requires.text c.in_ok-count.ensures.read in
     record {
       came = came;
-      did = asked;
-      says = λ text h. front_says c.args.points.now c.read_sheet.new.points c.args.faces.now c.read_sheet.new.faces c.requires.points c.requires.faces came text c.read_sheet.result h
-          (record { fault = read.fault; draft = read.draft; meaning = read.meaning; points = read.points; faces = read.faces });
+      did = subst (λ n. g.H.Host.does c.args.host.now (Read c.args.file n came) c.fill.new.self) c.requires.text c.in_ok-count.ensures.read;
+      says = λ text h. front_says c.args.points.now _ c.args.faces.now _ came text c.requires.points c.requires.faces h c.read_sheet.result read.fault read.draft read.points read.faces;
     }

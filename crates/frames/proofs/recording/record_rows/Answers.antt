@@ -1,19 +1,15 @@
-use Rattle.std.proofs.Common.{◌≡◌, length, ap, ◌∙◌}
-use Rattle.std.proofs.lemmas.Result.{err_from_is_err_and}
+use Rattle.std.proofs.Common.{◌≡◌, [], ◌∷◌, length, ap, subst, ◌∙◌}
+use Rattle.hosts.specs.Events.{Printed, Stored}
+use Rattle.hosts.specs.Writing.{Writes}
+use Rattle.hosts.proofs.Writing.{stored_then}
 use Rattle.frames.specs.Lines.{step_line}
-use Rattle.frames.specs.Outcomes.{recorded}
-use Rattle.frames.proofs.Steps.{told_after, not_stored}
+use Rattle.frames.specs.Outcomes.{recorded, with_line_feed}
+use Rattle.frames.specs.declared.frame_files.Recording.TheVariants.{Recorded}
 use Rattle.frames.proofs.recording.record_rows.Goals as goal
-
-pub returns-in_err-store : goal.returns-in_err-store
-returns-in_err-store g c =
-    let error = err_from_is_err_and c.from_residual.result c.from_residual.ensures.1 in
-    let rows = c.args.rows.now in
-    rw (error.1, error.2)
-    (not_stored g.H.Host.does g.H.Host.fails rows _ c.record_in-bytes.ensures c.args.host.now c.store.new.self c.in_err-store.field-0.0 c.in_err-store.ensures.stored)
 
 pub returns : goal.returns
 returns g c =
-    let rows = c.args.rows.now in
-    let line : c.as_str.result.now ≡ (recorded rows).line = c.as_str.ensures.value ∙ c.step_line-line.ensures ∙ ap (step_line _ _) (ap length c.record_in-bytes.ensures) in
-    told_after g.H.Host.does g.H.Host.fails rows _ c.record_in-bytes.ensures c.args.host.now c.store.new.self c.tell.new.host c.as_str.result.now c.tell.result line c.in_ok-store.ensures.stored c.tell.ensures
+    let made = c.record_in-bytes.ensures in
+    let line : c.as_str.result.now ≡ (recorded c.args.rows.now).line = c.as_str.ensures.value ∙ c.step_line-line.ensures ∙ ap (step_line _ _) (ap length made) in
+    subst (λ all. Writes g.H.Host.does g.H.Host.fails all Recorded c.args.host.now c.tell.result c.tell.new.host) (λ i. Stored (made i) ∷ (Printed (with_line_feed (line i)) ∷ []))
+    (stored_then g.H.Host.does g.H.Host.fails c.args.host.now Recorded (Printed (with_line_feed c.as_str.result.now) ∷ []) c.store.new.self c.tell.new.host _ c.tell.result c.in_ok-store.ensures.stored c.tell.ensures)
