@@ -1,5 +1,5 @@
 -- A run after the step: its pairs are offered, and then what is found is reported.
-use Rattle.std.proofs.Common.{◌≡◌, ℕ, ◌+◌, ◌≤◌, Bool, false, not, IsTrue, IsFalse, ◌||◌, if◌then◌else◌, List, [], ◌∷◌, ◌++◌, All, length, take, replicate, Some, None, Ok, Err, Result, IfOk, OnOk, refl, sym, ap, ◌∙◌, subst, arith, append_assoc, append-nil}
+use Rattle.std.proofs.Common.{◌≡◌, ℕ, ◌+◌, ◌≤◌, Bool, false, not, IsTrue, IsFalse, ◌||◌, if◌then◌else◌, List, [], ◌∷◌, ◌++◌, All, length, take, replicate, Some, None, Ok, Err, Result, IfOk, OnOk, refl, sym, ap, ◌∙◌, subst, subst₂, arith, append_assoc, append-nil}
 use Rattle.std.proofs.lemmas.Bool.{le-ltb}
 use Rattle.std.proofs.lemmas.List.Concat.{flat_map-append}
 use Rattle.std.proofs.lemmas.List.Elements.{All-head, All-tail, All-nil, All-take}
@@ -22,7 +22,7 @@ use Rattle.inspection.specs.declared.names.EeName.{EeName}
 use Rattle.inspection.specs.Claims.{Claim, Findings}
 use Rattle.inspection.specs.declared.offerings.Offering.{Offering}
 use Rattle.inspection.specs.Offers.{lacks_rows}
-use Rattle.inspection.specs.Runs.{Accepted, Opened, opened}
+use Rattle.inspection.specs.Runs.{Opened, opened}
 use Rattle.inspection.specs.Sheets.{Sheet, sheet_in}
 use Rattle.inspection.specs.States.{State, Core, core_at_start}
 use Rattle.inspection.specs.Tests.{Naming, vf_naming, ee_naming}
@@ -31,9 +31,9 @@ use Rattle.report.specs.Faults.{place_of}
 use Rattle.report.specs.Reports.{View, check, checks_from, entry_checks, entry_limit, len_checks, numbered, report_text}
 use Rattle.printout.specs.Outcomes.{same_file, StopsWith}
 use Rattle.printout.specs.Phases.{FitsFile, HoldsPlan, PairsRan}
-use Rattle.printout.specs.Plans.{Plan, printout, printout_by, sheet, draft, walk, report_of, state_found}
+use Rattle.printout.specs.Plans.{Plan, printout, printout_by, sheet, draft, walk, report_of}
 use Rattle.printout.specs.Progress.{Made, Begins, Reportable, pairs_came, ReadsPairs, TellsFileInPart, OffersFile}
-use Rattle.printout.specs.Walks.{Walk, Found, depth, places, just_opened, offered, walked, refusal_lines, refused_pairs}
+use Rattle.printout.specs.Walks.{Walk, depth, places, just_opened, offered, walked, refusal_lines, refused_pairs}
 use Rattle.printout.specs.declared.endings.Ending.{Ending}
 use Rattle.printout.specs.declared.endings.Ending.TheVariants.{Complete}
 use Rattle.printout.specs.declared.plan_files.PlanFile.{PlanFile}
@@ -57,21 +57,6 @@ no_faults v vf ee (rows, (vfs, ees)) =
     let second = no_stray ee_naming Ee v 0 (numbered ee) (All-take (λ e. IsTrue (ee_naming.inside v.sheet e)) entry_limit ee ees) in
     sym (ap (λ b. if b then Some (check b 16 0 0).tells else first_fit (entry_checks vf_naming Vf v vf ++ entry_checks ee_naming Ee v ee)) rows
     ∙ sym (past (entry_checks vf_naming Vf v vf) (entry_checks ee_naming Ee v ee) (sym first)) ∙ second)
-
--- ---- the claim looks at nothing of the lists but their names
-pub claim_found : (set : Shape → Bool) (d : Draft) (s : Sheet) (h : List Accepted) (f : Found) (t : State) → t.core ≡ f.core → t.vf.entries ≡ f.vf → t.ee.entries ≡ f.ee → Claim set d s h t → Claim set d s h (state_found f)
-claim_found set d s h f t core vf ee c =
-    let same : State = record { core = f.core; vf = record { entries = f.vf; rest = t.vf.rest; lender = t.vf.lender }; ee = record { entries = f.ee; rest = t.ee.rest; lender = t.ee.lender } } in
-    let e : t ≡ same = (λ i. record { core = core i; vf = record { entries = vf i; rest = t.vf.rest; lender = t.vf.lender }; ee = record { entries = ee i; rest = t.ee.rest; lender = t.ee.lender } }) in
-    let k : Claim set d s h same = subst (λ u. Claim set d s h u) e c in
-    record {
-      draft = k.draft;
-      vf = k.vf;
-      ee = k.ee;
-      again = k.again;
-      of_sheet = k.of_sheet;
-      offers = k.offers;
-    }
 
 module _ (d : Draft) (ps : List Point) (fs : List Face) where
   -- ---- an inspection that is just opened has made no step of the walk
@@ -238,11 +223,9 @@ module _ {S E : Type 0} (does : S → Event PlanFile → S → Type 0) (fails : 
                   pieces = told.files.pieces;
                   files = files-both d ps fs p holds es gs quiet ∙ told.files.each;
                   claim = λ none.
-                      let c = claim_found delivered d (sheet_in d ps fs) w.accepted w.found t made_walk.core made_walk.vf made_walk.ee (found d (sheet_in d ps fs) w.accepted made_walk.run) in
-                      let at : Walk → Type 0 = λ v. Claim delivered (draft p) (sheet p) v.accepted (state_found v.found) in
-                      subst at last
-                      (subst (λ q. Claim delivered (draft p) q w.accepted (state_found w.found)) holds.sheet
-                      (subst (λ q. Claim delivered q (sheet_in d ps fs) w.accepted (state_found w.found)) holds.draft c));
+                      let c = rw (made_walk.core, made_walk.vf, made_walk.ee) at (found d (sheet_in d ps fs) w.accepted made_walk.run) in
+                      let at : Walk → Type 0 = λ v. Claim delivered (draft p) (sheet p) v.accepted v.found.core v.found.vf v.found.ee in
+                      subst at last (subst₂ (λ q r. Claim delivered q r w.accepted w.found.core w.found.vf w.found.ee) holds.draft holds.sheet c);
                 },
           );
         }
