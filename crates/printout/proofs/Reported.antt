@@ -1,5 +1,5 @@
 -- A run after the step: its pairs are offered, and then what is found is reported.
-use Rattle.std.proofs.Common.{◌≡◌, ℕ, ◌+◌, ◌≤◌, Bool, true, false, not, IsTrue, ◌||◌, if◌then◌else◌, List, [], ◌∷◌, ◌++◌, All, length, take, replicate, Some, None, Ok, Err, Result, IfOk, OnOk, refl, sym, ap, ◌∙◌, subst, arith, append-nil}
+use Rattle.std.proofs.Common.{◌≡◌, ℕ, ◌+◌, ◌≤◌, true, false, not, IsTrue, ◌||◌, if◌then◌else◌, List, [], ◌∷◌, ◌++◌, All, length, take, replicate, Some, None, Ok, Err, Result, IfOk, OnOk, refl, sym, ap, ◌∙◌, subst, arith, append-nil}
 use Rattle.std.proofs.lemmas.Bool.{le-ltb}
 use Rattle.std.proofs.lemmas.List.Elements.{All-head, All-tail, All-nil, All-take, All-replicate}
 use Rattle.std.proofs.lemmas.List.Sums.{fold-append}
@@ -11,7 +11,6 @@ use Rattle.sheet.proofs.FirstFit.{past}
 use Rattle.sheet.specs.declared.drafts.Draft.{Draft}
 use Rattle.sheet.specs.declared.rows.Point.{Point}
 use Rattle.sheet.specs.declared.rows.Face.{Face}
-use Rattle.motion.specs.declared.shapes.Shape.{Shape}
 use Rattle.motion.specs.Rows.{delivered}
 use Rattle.inspection.specs.declared.kinds.ListKind.{ListKind}
 use Rattle.inspection.specs.declared.kinds.ListKind.TheVariants.{Vf, Ee}
@@ -30,7 +29,7 @@ use Rattle.report.specs.Faults.{place_of}
 use Rattle.report.specs.Reports.{View, check, checks_from, entry_checks, entry_limit, len_checks, numbered, report_text}
 use Rattle.printout.specs.Outcomes.{same_file}
 use Rattle.printout.specs.Phases.{plan_told, Ends, Comes, FitsFile, HoldsPlan, AfterStep}
-use Rattle.printout.specs.Plans.{Plan, printout, printout_by, sheet, draft, walk, report_of, state_found, ClaimOfPlan}
+use Rattle.printout.specs.Plans.{Plan, printout, printout_by, sheet, draft, walk, report_of, ClaimOfPlan}
 use Rattle.printout.specs.Progress.{Lists, Made, Begins, Reportable, only_text, nothing_told, ◌⊕◌, told_by, told_of, LeavesUntold, Tells, TellsText, pairs_came, CameTo, TellsFile, OfferedFile, OffersFile}
 use Rattle.printout.specs.Walks.{Walk, Found, depth, places, just_opened, offered, walked, refusal_lines, refused_pairs}
 use Rattle.printout.specs.declared.endings.Ending.{Ending}
@@ -56,21 +55,6 @@ no_faults v vf ee (rows, (vfs, ees)) =
     let second = no_stray ee_naming Ee v 0 (numbered ee) (All-take (λ e. IsTrue (ee_naming.inside v.sheet e)) entry_limit ee ees) in
     sym (ap (λ b. if b then Some (check b 16 0 0).tells else first_fit (entry_checks vf_naming Vf v vf ++ entry_checks ee_naming Ee v ee)) rows
     ∙ sym (past (entry_checks vf_naming Vf v vf) (entry_checks ee_naming Ee v ee) (sym first)) ∙ second)
-
--- ---- the claim looks at nothing of the lists but their names
-claim_found : (set : Shape → Bool) (d : Draft) (s : Sheet) (h : List Accepted) (f : Found) (t : State) → t.core ≡ f.core → t.vf.entries ≡ f.vf → t.ee.entries ≡ f.ee → Claim set d s h t → Claim set d s h (state_found f)
-claim_found set d s h f t core vf ee c =
-    let same : State = record { core = f.core; vf = record { entries = f.vf; rest = t.vf.rest; lender = t.vf.lender }; ee = record { entries = f.ee; rest = t.ee.rest; lender = t.ee.lender } } in
-    let e : t ≡ same = (λ i. record { core = core i; vf = record { entries = vf i; rest = t.vf.rest; lender = t.vf.lender }; ee = record { entries = ee i; rest = t.ee.rest; lender = t.ee.lender } }) in
-    let k : Claim set d s h same = subst (λ u. Claim set d s h u) e c in
-    record {
-      draft = k.draft;
-      vf = k.vf;
-      ee = k.ee;
-      again = k.again;
-      of_sheet = k.of_sheet;
-      offers = k.offers;
-    }
 
 -- ---- an inspection that is just opened has made no step of the walk
 pub made_none : (d : Draft) (s : State) → Opened d s → s.core ≡ core_at_start d depth → length s.vf.rest ≡ places → length s.ee.rest ≡ places → Begins d s
@@ -173,10 +157,9 @@ module _ (p : Plan) (d : Draft) (ps : List Point) (fs : List Face) (h : HoldsPla
 
         claim : Findings delivered t → ClaimOfPlan p
         claim found none =
-            let w = over (pairs_came es) in
-            let c = claim_found delivered t.core.draft (sheet_in t.core.draft ps fs) w.accepted w.found t (ap (λ f. f.core) m.found) (ap (λ f. f.vf) m.found) (ap (λ f. f.ee) m.found)
-            (found t.core.draft (sheet_in t.core.draft ps fs) w.accepted m.run) in
-            subst (λ (k : Draft × Sheet × Walk). Claim delivered k.0 k.1 k.2.accepted (state_found k.2.found)) (λ i. ((m.draft ∙ h.draft) i, same_sheet i, whole_walk i)) c
+            subst (λ (k : Draft × Sheet × List Accepted × Found). Claim delivered k.0 k.1 k.2 k.3.core k.3.vf k.3.ee)
+            (λ i. ((m.draft ∙ h.draft) i, same_sheet i, ap (λ w. w.accepted) whole_walk i, (m.found ∙ ap (λ w. w.found) whole_walk) i))
+            (found t.core.draft (sheet_in t.core.draft ps fs) (over (pairs_came es)).accepted m.run)
 
         ends : (how : Result Ending (Call PlanFile)) → LeavesUntold how total.rest → IfOk how (λ end. (end ≡ Complete) × Findings delivered t) → IfOk how (Ends p total.rest [])
         ends (Err call) untold found = tt
