@@ -1,6 +1,7 @@
 pub mod Fronts
 pub mod Histories
 pub mod Printing
+pub mod Ran
 pub mod Remembering
 pub mod Showing
 pub mod Working

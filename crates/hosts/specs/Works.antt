@@ -1,6 +1,6 @@
 -- A work over a host: all of its calls go well, or one fails and ends it.
-use Rattle.std.specs.Prelude.{◌≡◌, ℕ, List, ◌++◌, All, Ok, Err, Result}
-use Rattle.hosts.specs.Events.{Event, Read, Printed, Stored, Call, Printing, printed}
+use Rattle.std.specs.Prelude.{◌≡◌, ℕ, List, [], ◌++◌, All, Ok, Err, Result}
+use Rattle.hosts.specs.Events.{Event, Read, Printed, Stored, Call, Printing, printed, unread}
 use Rattle.hosts.specs.Traces.{Went}
 
 module _ {S F E : Type 0} (does : S → Event F → S → Type 0) (fails : S → Call F → E → S → Type 0) where
@@ -26,6 +26,17 @@ module _ {S F E : Type 0} (does : S → Event F → S → Type 0) (fails : S →
       → (List (Event F) → Call F → Type 0) → S → Result X E → S → Type 0
   Worked Good Part s (Ok x) t = Finished Good s x t
   Worked Good Part s (Err e) t = Stopped Part s e t
+
+-- ---- by what is done and how it ends: with an answer, or by the call that failed
+abbrev pub Ran : {S F E X : Type 0} → (S → Event F → S → Type 0) → (S → Call F → E → S → Type 0)
+    → (List (Event F) → Result X (Call F) → Type 0) → S → Result X E → S → Type 0
+Ran does fails P s r t =
+    Worked does fails (λ es x. P es (Ok x)) (λ es call. P es (Err call)) s r t
+
+-- the file that could not be read, if that is how it ends
+abbrev pub unread_by : {F X : Type 0} → Result X (Call F) → List F
+unread_by (Ok x) = []
+unread_by (Err call) = unread call
 
 -- a front of it
 pub record IsFront {X : Type 0} (front whole : List X) : Type 0 where

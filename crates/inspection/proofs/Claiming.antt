@@ -22,7 +22,7 @@ use Rattle.inspection.proofs.Keeping.{kept, covers}
 ended : {E : Type 0} {n : Naming E} {times : ℕ → ℕ} {set : Shape → Bool} {sheet : Sheet} {h : List Accepted} {es : List E} {t : Tally} → KindSoFar n times set sheet h es t → Upto n set sheet h (length h) 0 es
 ended {n} {set} {sheet} {h} {es} k = subst (λ (x : List Accepted). Upto n set sheet x (length h) 0 es) (append-nil h) (k.gathered [])
 
-pub claim : {set : Shape → Bool} → Lawful set → (d : Draft) (sheet : Sheet) (h : List Accepted) (s : State) → Run set d sheet h s → Claim set d sheet h s
+pub claim : {set : Shape → Bool} → Lawful set → (d : Draft) (sheet : Sheet) (h : List Accepted) (s : State) → Run set d sheet h s → Claim set d sheet h s.core s.vf.entries s.ee.entries
 claim {set} law d sheet h s run =
     let m : Moment set d sheet h s = moment set d sheet run in
     let low = λ (i : ℕ) (o : Accepted) (a : At h i o). (at-all (OfferFacts sheet) h i o m.each a).shallow in

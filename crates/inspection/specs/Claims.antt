@@ -8,12 +8,14 @@ use Rattle.motion.specs.Laws.{Valid, Apart}
 use Rattle.motion.specs.Depths.{struck_at}
 use Rattle.inspection.specs.declared.classes.Tally.{Tally}
 use Rattle.inspection.specs.declared.kinds.ListKind.TheVariants.{Vf, Ee}
+use Rattle.inspection.specs.declared.names.VfName.{VfName}
+use Rattle.inspection.specs.declared.names.EeName.{EeName}
 use Rattle.inspection.specs.Tallies.{total, tally_in}
 use Rattle.inspection.specs.Offerings.{Offering, Faces, SameOffering}
 use Rattle.inspection.specs.Sheets.{Sheet, face_at}
 use Rattle.inspection.specs.Tests.{Naming, vf_naming, ee_naming, corners_inside}
 use Rattle.inspection.specs.Lists.{has}
-use Rattle.inspection.specs.States.{State}
+use Rattle.inspection.specs.States.{Core, State}
 use Rattle.inspection.specs.Runs.{Accepted, Run}
 
 -- by offer, then in the order of an offer's tests
@@ -92,25 +94,26 @@ pub record AreOfSheet (sheet : Sheet) (f g : ℕ) : Type 0 where
 abbrev pub OfSheet : Sheet → Offering → Type 0
 OfSheet sheet (Faces f g) = AreOfSheet sheet f g
 
--- of a run with these accepted offers that ends in this state
+-- of a run with these accepted offers: what the inspection itself and the names on its two lists
+-- say at the end
 pub record Claim
-    (set : Shape → Bool) (d : Draft) (sheet : Sheet) (history : List Accepted) (s : State)
-    : Type 0 where
-  pub draft : s.core.draft ≡ d
-  pub vf : ClaimOfKind vf_naming set sheet history 6 s.vf.entries (tally_in Vf s.core.tallies)
-  pub ee : ClaimOfKind ee_naming set sheet history 9 s.ee.entries (tally_in Ee s.core.tallies)
+    (set : Shape → Bool) (d : Draft) (sheet : Sheet) (history : List Accepted)
+    (core : Core) (vfs : List VfName) (ees : List EeName) : Type 0 where
+  pub draft : core.draft ≡ d
+  pub vf : ClaimOfKind vf_naming set sheet history 6 vfs (tally_in Vf core.tallies)
+  pub ee : ClaimOfKind ee_naming set sheet history 9 ees (tally_in Ee core.tallies)
   -- another run over the same sheet, of any draft, by a filter of the same set, lists nothing that
   -- is lacking here, where its offers were accepted here
   pub again : (set' : Shape → Bool) → Agree set set'
       → (d' : Draft) (other : List Accepted) (t : State) → Run set' d' sheet other t
       → MatchesOffers history other
-      → Covers vf_naming.same s.vf.entries t.vf.entries
-      × Covers ee_naming.same s.ee.entries t.ee.entries
+      → Covers vf_naming.same vfs t.vf.entries
+      × Covers ee_naming.same ees t.ee.entries
   pub of_sheet : All (λ o. OfSheet sheet o.what) history
-  pub offers : s.core.accepted ≡ length history
+  pub offers : core.accepted ≡ length history
 
 -- what every run that ends in this state has found
 abbrev pub Findings : (Shape → Bool) → State → Type 0
 Findings set s =
     (d : Draft) (sheet : Sheet) (history : List Accepted) → Run set d sheet history s
-    → Claim set d sheet history s
+    → Claim set d sheet history s.core s.vf.entries s.ee.entries

@@ -44,7 +44,8 @@ pub fn inspect_by_hand<F: Filter + Drop>(
         let start = state_at_start draft 2 (contents_of vf.old) (contents_of ee.old) in
         let end = after_both set points.now faces.now first second start in
         let history = accepted_of_both set points.now faces.now first second start in
-        IfSome result (λ counts. Claim set draft sheet history end) }
+        IfSome result (λ counts.
+        Claim set draft sheet history end.core end.vf.entries end.ee.entries) }
 {
     let inspection = open(draft, filter, vf, ee);
     let Some(mut inspection) = accepted(inspection, points, faces, vf, ee, first, second) else {

@@ -6,4 +6,3 @@ pub mod Phases
 pub mod Reported
 pub mod Rows
 pub mod Telling
-pub mod Turns

@@ -1,11 +1,13 @@
--- An offer makes one more step of the walk.
-use Rattle.std.proofs.Common.{◌≡◌, ℕ, ◌+◌, ◌-◌, ◌<◌, ◌≤◌, Bool, true, false, if◌then◌else◌, ◌||◌, List, [], ◌∷◌, ◌++◌, length, Some, None, Ok, Err, Result, nat_lt, IsFalse, refl, sym, ap, ◌∙◌, subst, arith, length-drop, length-append, length-take, take, All}
+-- An offer makes one more step of the walk, and pairs are offered one after another.
+use Rattle.std.proofs.Common.{◌≡◌, ℕ, ◌+◌, ◌-◌, ◌<◌, ◌≤◌, Bool, true, false, if◌then◌else◌, ◌||◌, not, List, [], ◌∷◌, ◌++◌, length, Some, None, Option, Ok, Err, Result, IfOk, nat_lt, IsFalse, IsTrue, refl, sym, ap, ◌∙◌, subst, arith, length-drop, length-append, length-take, take, append_assoc, append-nil, All}
 use Rattle.std.proofs.lemmas.Bool.Decides.{nat_tests}
 use Rattle.std.proofs.lemmas.Bool.{ltb-false, leb-false, not-false}
 use Rattle.std.proofs.lemmas.List.{length-map}
+use Rattle.std.proofs.lemmas.List.Concat.{flat_map-append}
+use Rattle.std.proofs.lemmas.List.Sums.{fold-append}
 use Rattle.inspection.proofs.Inside.{VfIn, EeIn, after_all, vf_in, ee_in}
 use Rattle.sheet.proofs.FirstFit.{none_parts, no_fit, none_fits}
-use Rattle.sheet.specs.Checks.{first_fit}
+use Rattle.sheet.specs.Checks.{first_fit, fault_notice}
 use Rattle.sheet.specs.declared.notices.Layer.TheVariants.{Offer}
 use Rattle.sheet.specs.declared.notices.Notice.{Notice}
 use Rattle.sheet.specs.declared.drafts.Draft.{Draft}
@@ -20,17 +22,19 @@ use Rattle.inspection.specs.Faults.{check, notice_of_offer}
 use Rattle.inspection.specs.Lists.{Contents, with_entries}
 use Rattle.inspection.specs.declared.offerings.Offering.{Offering}
 use Rattle.inspection.specs.declared.offerings.Offering.TheVariants.{Faces}
-use Rattle.inspection.specs.Offers.{lacks_rows, lacks_room, pair_checks, offer_checks, room_check, entries_by, tally_by, OfferStep}
+use Rattle.inspection.specs.Offers.{lacks_rows, pair_checks, offer_checks, room_check, entries_by, state_after, OfferStep}
 use Rattle.inspection.specs.Runs.{Run, offered as run_offered}
 use Rattle.inspection.specs.Sheets.{Sheet, sheet_in, face_at, moving_of}
-use Rattle.inspection.specs.States.{State, Core, with_counts}
-use Rattle.inspection.specs.Tests.{corners_below, corners_inside, vf_naming, ee_naming}
+use Rattle.inspection.specs.States.{State}
+use Rattle.inspection.specs.Tests.{Naming, corners_below, corners_inside, vf_naming, ee_naming}
 use Rattle.hosts.specs.Events.{Event, Call}
 use Rattle.hosts.specs.Traces.{nothing}
-use Rattle.printout.specs.Progress.{Made, Refuses, Offers}
-use Rattle.printout.specs.Walks.{Walk, places, is_full, refusal, found_after, vf_after, ee_after, sorted_in, offered}
+use Rattle.hosts.proofs.Ran.{ran_after, ran_short}
+use Rattle.printout.specs.Printouts.{notice_line}
+use Rattle.printout.specs.Progress.{Lists, found_in, Made, Told, nothing_told, ◌⊕◌, told_of, refusal_told, Tells, Refuses, Offered, Offers}
+use Rattle.printout.specs.Walks.{Walk, places, pair_bytes, is_full, refusal, found_after, vf_after, ee_after, sorted_in, offered, walked, refusal_lines, refused_pairs}
 use Rattle.printout.specs.declared.plan_files.PlanFile.{PlanFile}
-use Rattle.printout.proofs.Telling.{tells_none, tells_one, tells_part_of_one}
+use Rattle.printout.proofs.Telling.{told_nothing, told_assoc, quiet, tells_then, tells_behind, tells_short}
 
 -- a list only grows
 grows_with : {E : Type 0} (k : Class) (es : List E) (e : E) → length es ≤ length (entries_with k es e)
@@ -41,156 +45,179 @@ grows_with Repeated es e = omega arith
 
 grows : {E : Type 0} (r : Rules E) (es tests : List E) → length es ≤ length (entries_after r es tests)
 grows r es [] = omega arith
-grows r es (e ∷ tests) =
-    let k = class_of r es e in
-    let one : length es ≤ length (entries_with k es e) = grows_with k es e in
-    let rest : length (entries_with k es e) ≤ length (entries_after r (entries_with k es e) tests) = grows r (entries_with k es e) tests in
-    omega (arith, one, rest)
+grows r es (e ∷ tests) = omega (arith, grows_with (class_of r es e) es e, grows r (entries_with (class_of r es e) es e) tests)
 
 neither : (a b : Bool) → (a || b) ≡ false → (a ≡ false) × (b ≡ false)
 neither true b e = (e, cc)
 neither false b e = (refl, e)
 
+if_ok : {X C A : Type 0} → A → (how : Result X C) → IfOk how (λ x. A)
+if_ok a (Ok x) = a
+if_ok a (Err c) = tt
+
 -- fewer free places than new entries: more entries than places
 room : (n r m : ℕ) → n + r ≡ places → nat_lt r (m - n) ≡ nat_lt places m
 room n r m e = grind (arith, nat_tests)
 
-left : {E : Type 0} (h : Contents E) (es : List E) → length h.entries + length h.rest ≡ places → length h.entries ≤ length es → nat_lt places (length es) ≡ false
-    → length (with_entries es h).entries + length (with_entries es h).rest ≡ places
-left h es e more fits = omega (arith, length-drop (length es - length h.entries) h.rest, ltb-false places (length es) fits)
+module _ (set : Shape → Bool) (ps : List Point) (fs : List Face) (o : Offering) (s : State) where
+  abbrev here : Sheet
+  here = sheet_in s.core.draft ps fs
 
-module _ (set : Shape → Bool) (d : Draft) (ps : List Point) (fs : List Face) (sheet : Sheet) where
+  -- a list after an offer for which it has room
+  lists_after : {E : Type 0} (n : Naming E) (list : Contents E) → Lists n here list → All (λ e. IsTrue (n.inside here e)) (n.tests here o)
+      → nat_lt places (length (entries_by n set s.core.depth here o list.entries)) ≡ false → Lists n here (with_entries (entries_by n set s.core.depth here o list.entries) list)
+  lists_after n list l new fits =
+      let after = entries_by n set s.core.depth here o list.entries in
+      let rules = rules_at n set s.core.depth here in
+      record {
+        room = omega (arith, l.room, length-drop (length after - length list.entries) list.rest, ltb-false places (length after) fits, grows rules list.entries (n.tests here o));
+        inside = after_all rules (λ e. IsTrue (n.inside here e)) list.entries (n.tests here o) l.inside new;
+      }
+
   -- a pair that fits no check has tests of the sheet
-  tests_inside : (n : ℕ) (o : Offering) → IsFalse (lacks_rows d ps fs) → sheet_in d ps fs ≡ sheet → first_fit (pair_checks d sheet o n) ≡ None
-      → All (VfIn sheet) (vf_naming.tests sheet o) × All (EeIn sheet) (ee_naming.tests sheet o)
-  tests_inside n (Faces f g) rows tables none =
-      let p = none_fits (pair_checks d sheet (Faces f g) n) none in
-      let short = neither (nat_lt (length ps) d.points) (nat_lt (length fs) d.faces) rows in
-      let points : d.points ≡ length sheet.points =
-      omega (arith, length-map (take d.points ps) moving_of, length-take d.points ps, ltb-false (length ps) d.points short.0, ap (λ (s : Sheet). length s.points) tables) in
-      let faces : d.faces ≡ length sheet.faces =
-      omega (arith, length-take d.faces fs, ltb-false (length fs) d.faces short.1, ap (λ (s : Sheet). length s.faces) tables) in
-      let hf : f < length sheet.faces = omega (arith, faces, leb-false d.faces f p.0) in
-      let hg : g < length sheet.faces = omega (arith, faces, leb-false d.faces g p.1.0) in
-      let cf : corners_inside sheet (face_at sheet f) ≡ true = ap (λ k. corners_below k (face_at sheet f)) (sym points) ∙ not-false (corners_below d.points (face_at sheet f)) p.1.1.1.0 in
-      let cg : corners_inside sheet (face_at sheet g) ≡ true = ap (λ k. corners_below k (face_at sheet g)) (sym points) ∙ not-false (corners_below d.points (face_at sheet g)) p.1.1.1.1.0 in
-      (vf_in sheet f g hf hg cf cg, ee_in sheet f g hf hg cf cg)
+  tests_inside : IsFalse (lacks_rows s.core.draft ps fs) → first_fit (pair_checks s.core.draft here o s.core.accepted) ≡ None
+      → All (VfIn here) (vf_naming.tests here o) × All (EeIn here) (ee_naming.tests here o)
+  tests_inside rows none = inside o none
+    where
+      short : (nat_lt (length ps) s.core.draft.points ≡ false) × (nat_lt (length fs) s.core.draft.faces ≡ false)
+      short = neither (nat_lt (length ps) s.core.draft.points) (nat_lt (length fs) s.core.draft.faces) rows
 
-  module _ (o : Offering) (w : Walk) (s : State) (m : Made set d ps fs sheet w s) where
-    draft : s.core.draft ≡ d
-    draft = ap (λ (c : Core). c.draft) m.core ∙ m.draft
+      points : s.core.draft.points ≡ length here.points
+      points = omega (arith, length-map (take s.core.draft.points ps) moving_of, length-take s.core.draft.points ps, ltb-false (length ps) s.core.draft.points short.0)
 
-    there : sheet_in s.core.draft ps fs ≡ sheet
-    there = ap (λ k. sheet_in k ps fs) draft ∙ m.tables
+      faces : s.core.draft.faces ≡ length here.faces
+      faces = omega (arith, length-take s.core.draft.faces fs, ltb-false (length fs) s.core.draft.faces short.1)
 
-    -- the names on a list after it
-    same_vf : entries_by vf_naming set s.core.depth (sheet_in s.core.draft ps fs) o s.vf.entries ≡ vf_after set sheet o w.found
-    same_vf = λ i. entries_by vf_naming set (m.core i).depth (there i) o (m.vf i)
+      corners : (f : ℕ) → not (corners_below s.core.draft.points (face_at here f)) ≡ false → corners_inside here (face_at here f) ≡ true
+      corners f below = ap (λ k. corners_below k (face_at here f)) (sym points) ∙ not-false (corners_below s.core.draft.points (face_at here f)) below
 
-    same_ee : entries_by ee_naming set s.core.depth (sheet_in s.core.draft ps fs) o s.ee.entries ≡ ee_after set sheet o w.found
-    same_ee = λ i. entries_by ee_naming set (m.core i).depth (there i) o (m.ee i)
+      inside : (o : Offering) → first_fit (pair_checks s.core.draft here o s.core.accepted) ≡ None → All (VfIn here) (vf_naming.tests here o) × All (EeIn here) (ee_naming.tests here o)
+      inside (Faces f g) none =
+          let p = none_fits (pair_checks s.core.draft here (Faces f g) s.core.accepted) none in
+          let hf : f < length here.faces = omega (arith, faces, leb-false s.core.draft.faces f p.0) in
+          let hg : g < length here.faces = omega (arith, faces, leb-false s.core.draft.faces g p.1.0) in
+          (vf_in here f g hf hg (corners f p.1.1.1.0) (corners g p.1.1.1.1.0), ee_in here f g hf hg (corners f p.1.1.1.0) (corners g p.1.1.1.1.0))
 
-    same_room : (lacks_room vf_naming set s.core.depth (sheet_in s.core.draft ps fs) o s.vf || lacks_room ee_naming set s.core.depth (sheet_in s.core.draft ps fs) o s.ee)
-        ≡ is_full set sheet o w.found
-    same_room =
-        let vf = room (length s.vf.entries) (length s.vf.rest) (length (entries_by vf_naming set s.core.depth (sheet_in s.core.draft ps fs) o s.vf.entries)) m.vf_places
-        ∙ ap (λ es. nat_lt places (length es)) same_vf in
-        let ee = room (length s.ee.entries) (length s.ee.rest) (length (entries_by ee_naming set s.core.depth (sheet_in s.core.draft ps fs) o s.ee.entries)) m.ee_places
-        ∙ ap (λ es. nat_lt places (length es)) same_ee in
-        λ i. vf i || ee i
+  module _ (d : Draft) (w : Walk) (m : Made set d ps fs w s) where
+    abbrev sheet : Sheet
+    sheet = sheet_in d ps fs
 
-    pub same_refusal : first_fit (offer_checks set ps fs o s) ≡ refusal set sheet o w.found
+    same_refusal : first_fit (offer_checks set ps fs o s) ≡ refusal set here o (found_in s)
     same_refusal =
-        let rows : lacks_rows s.core.draft ps fs ≡ false = ap (λ k. lacks_rows k ps fs) draft ∙ m.rows in
-        let rest = pair_checks s.core.draft (sheet_in s.core.draft ps fs) o s.core.accepted ++ (room_check set (sheet_in s.core.draft ps fs) o s ∷ []) in
-        ap (λ b. if b then Some (check b 16 Offer 0).tells else first_fit rest) rows
-        ∙ (λ i. first_fit (pair_checks (m.core i).draft (there i) o (m.core i).accepted ++ (check (same_room i) 21 Offer 0 ∷ [])))
+        let k = s.core.depth in
+        let vf = room (length s.vf.entries) (length s.vf.rest) (length (entries_by vf_naming set k here o s.vf.entries)) m.vf.room in
+        let ee = room (length s.ee.entries) (length s.ee.rest) (length (entries_by ee_naming set k here o s.ee.entries)) m.ee.room in
+        let checks = pair_checks s.core.draft here o s.core.accepted in
+        ap (λ b. if b then Some (check b 16 Offer 0).tells else first_fit (checks ++ (room_check set here o s ∷ []))) m.rows
+        ∙ (λ i. first_fit (checks ++ (check (vf i || ee i) 21 Offer 0 ∷ [])))
 
-    -- the state after it, where it is accepted
-    accepted_core : with_counts (tally_by vf_naming set s.core.depth (sheet_in s.core.draft ps fs) o s.vf.entries) (tally_by ee_naming set s.core.depth (sheet_in s.core.draft ps fs) o s.ee.entries) s.core
-        ≡ (found_after set sheet o w.found).core
-    accepted_core =
-        λ i. with_counts (tally_by vf_naming set (m.core i).depth (there i) o (m.vf i)) (tally_by ee_naming set (m.core i).depth (there i) o (m.ee i)) (m.core i)
+    -- the walk refuses it as the inspection does
+    refuses : (r : Result (Unit {0}) OfferFault) (t : State) → OfferStep set ps fs o s r t → fault_notice notice_of_offer r ≡ refusal set sheet o w.found
+    refuses r t step = step.fault ∙ same_refusal ∙ (λ i. refusal set (sheet_in (m.draft i) ps fs) o (m.found i))
 
-    accepted : (u : Unit {0}) (t : State) → OfferStep set ps fs o s (Ok u) t → refusal set sheet o w.found ≡ None → Made set d ps fs sheet (sorted_in set sheet w o None) t
-    accepted u t step none =
-        let here = sheet_in s.core.draft ps fs in
-        let vf = entries_by vf_naming set s.core.depth here o s.vf.entries in
-        let ee = entries_by ee_naming set s.core.depth here o s.ee.entries in
-        let checks = pair_checks w.found.core.draft sheet o w.found.core.accepted in
-        let full = check (is_full set sheet o w.found) 21 Offer 0 in
-        let fits = neither (nat_lt places (length (vf_after set sheet o w.found))) (nat_lt places (length (ee_after set sheet o w.found)))
-        (no_fit full [] (none_parts checks (full ∷ []) none).1).0 in
-        let fresh = tests_inside w.found.core.accepted o m.rows m.tables (ap (λ k. first_fit (pair_checks k sheet o w.found.core.accepted)) (sym m.draft) ∙ (none_parts checks (full ∷ []) none).0) in
-        record {
-          rows = m.rows;
-          tables = m.tables;
+    sorted : (r : Result (Unit {0}) OfferFault) (t : State) → OfferStep set ps fs o s r t → Made set d ps fs (sorted_in set sheet w o (fault_notice notice_of_offer r)) t
+    sorted (Err e) t step =
+        subst (Made set d ps fs (sorted_in set sheet w o (Some (notice_of_offer e)))) (sym step.state)
+        (record {
           draft = m.draft;
-          core = ap (λ (x : State). x.core) step.state ∙ accepted_core;
-          vf = ap (λ (x : State). x.vf.entries) step.state ∙ same_vf;
-          ee = ap (λ (x : State). x.ee.entries) step.state ∙ same_ee;
-          vf_places =
-              ap (λ (x : State). length x.vf.entries + length x.vf.rest) step.state
-              ∙ left s.vf vf m.vf_places (grows (rules_at vf_naming set s.core.depth here) s.vf.entries (vf_naming.tests here o)) (ap (λ es. nat_lt places (length es)) same_vf ∙ fits.0);
-          ee_places =
-              ap (λ (x : State). length x.ee.entries + length x.ee.rest) step.state
-              ∙ left s.ee ee m.ee_places (grows (rules_at ee_naming set s.core.depth here) s.ee.entries (ee_naming.tests here o)) (ap (λ es. nat_lt places (length es)) same_ee ∙ fits.1);
-          run =
-              let next = run_offered ps fs o (Ok u) t m.run (λ rows. m.tables) step in
-              subst (λ k. Run set d sheet (w.accepted ++ (record { what = o; depth = k } ∷ [])) t) (ap (λ (c : Core). c.depth) m.core) next;
-          vf_inside = after_all (rules_at vf_naming set w.found.core.depth sheet) (VfIn sheet) w.found.vf (vf_naming.tests sheet o) m.vf_inside fresh.0;
-          ee_inside = after_all (rules_at ee_naming set w.found.core.depth sheet) (EeIn sheet) w.found.ee (ee_naming.tests sheet o) m.ee_inside fresh.1;
-        }
-
-    refused : (e : OfferFault) (t : State) → OfferStep set ps fs o s (Err e) t → Made set d ps fs sheet (sorted_in set sheet w o (Some (notice_of_offer e))) t
-    refused e t step =
-        let same : t ≡ s = step.state in
-        record {
+          found = m.found;
           rows = m.rows;
-          tables = m.tables;
+          vf = m.vf;
+          ee = m.ee;
+          run = run_offered ps fs o (Err e) s m.run (λ rows. refl) (record { fault = step.fault; state = refl });
+        })
+    sorted (Ok u) t step =
+        let checks = pair_checks s.core.draft here o s.core.accepted in
+        let full = check (is_full set here o (found_in s)) 21 Offer 0 in
+        let none = none_parts checks (full ∷ []) (sym same_refusal ∙ sym step.fault) in
+        let fits = neither (nat_lt places (length (vf_after set here o (found_in s)))) (nat_lt places (length (ee_after set here o (found_in s)))) (no_fit full [] none.1).0 in
+        let new = tests_inside m.rows none.0 in
+        let after = state_after set here o s in
+        let run = run_offered ps fs o (Ok u) after m.run (λ rows. refl) (record { fault = step.fault; state = refl }) in
+        subst (Made set d ps fs (sorted_in set sheet w o None)) (sym step.state)
+        (record {
           draft = m.draft;
-          core = ap (λ (x : State). x.core) same ∙ m.core;
-          vf = ap (λ (x : State). x.vf.entries) same ∙ m.vf;
-          ee = ap (λ (x : State). x.ee.entries) same ∙ m.ee;
-          vf_places = ap (λ (x : State). length x.vf.entries + length x.vf.rest) same ∙ m.vf_places;
-          ee_places = ap (λ (x : State). length x.ee.entries + length x.ee.rest) same ∙ m.ee_places;
-          run = run_offered ps fs o (Err e) t m.run (λ rows. m.tables) step;
-          vf_inside = m.vf_inside;
-          ee_inside = m.ee_inside;
-        }
+          found = λ i. found_after set (sheet_in (m.draft i) ps fs) o (m.found i);
+          rows = m.rows;
+          vf = lists_after vf_naming s.vf m.vf new.0 fits.0;
+          ee = lists_after ee_naming s.ee m.ee new.1 fits.1;
+          run = subst (λ k. Run set s.core.draft here (w.accepted ++ (record { what = o; depth = k } ∷ [])) after) (ap (λ f. f.core.depth) m.found) run;
+        })
 
-    pub made : (r : Result (Unit {0}) OfferFault) (t : State) → OfferStep set ps fs o s r t → Made set d ps fs sheet (offered set sheet w o) t
-    made (Ok u) t step =
-        let none : refusal set sheet o w.found ≡ None = sym same_refusal ∙ sym step.fault in
-        subst (λ n. Made set d ps fs sheet (sorted_in set sheet w o n) t) (sym none) (accepted u t step none)
-    made (Err e) t step =
-        subst (λ n. Made set d ps fs sheet (sorted_in set sheet w o n) t) (step.fault ∙ same_refusal) (refused e t step)
+    made : (r : Result (Unit {0}) OfferFault) (t : State) → OfferStep set ps fs o s r t → Made set d ps fs (offered set sheet w o) t
+    made r t step = subst (λ n. Made set d ps fs (sorted_in set sheet w o n) t) (refuses r t step) (sorted r t step)
 
--- ---- what an offer leaves and tells, in the words of the calls
+-- ---- what is told of it
+module _ (set : Shape → Bool) (sheet : Sheet) where
+  told_refused : (w : Walk) (o : Offering) (n : Notice) → told_of (sorted_in set sheet w o (Some n)) ≡ told_of w ⊕ refusal_told n o
+  told_refused w o n =
+      let one = record { pair = o; why = n } ∷ [] in
+      λ i. record {
+        text = (flat_map-append (λ r. notice_line r.why) w.refused one ∙ ap (λ l. refusal_lines w ++ l) (append-nil (notice_line n))) i;
+        stored = (flat_map-append (λ r. pair_bytes r.pair) w.refused one ∙ ap (λ l. refused_pairs w ++ l) (append-nil (pair_bytes o))) i;
+      }
+
+  -- what is told of a walk is a front of what is told of it when it has gone on
+  pub goes_on : (w : Walk) (os : List Offering) → (more : Told) × (told_of (walked set sheet w os) ≡ told_of w ⊕ more)
+  goes_on w [] = (nothing_told, sym (told_nothing (told_of w)))
+  goes_on w (o ∷ os) =
+      let one = first (refusal set sheet o w.found) in
+      let rest = goes_on (offered set sheet w o) os in
+      (one.0 ⊕ rest.0, rest.1 ∙ ap (λ l. l ⊕ rest.0) one.1 ∙ told_assoc (told_of w) one.0 rest.0)
+    where
+      first : (n : Option Notice) → (more : Told) × (told_of (sorted_in set sheet w o n) ≡ told_of w ⊕ more)
+      first None = (nothing_told, sym (told_nothing (told_of w)))
+      first (Some n) = (refusal_told n o, told_refused w o n)
+
+-- ---- in the words of the calls
 module _ {S E : Type 0} (does : S → Event PlanFile → S → Type 0) (fails : S → Call PlanFile → E → S → Type 0)
-    (set : Shape → Bool) (ps : List Point) (fs : List Face) (o : Offering) (s t : State) where
-  pub offer_accepted : (h : S) → OfferStep set ps fs o s (Ok tt) t → Offers {X = Unit {0}} does fails set ps fs (o ∷ []) s t h (Ok tt) h
-  unfolding Offers
-  offer_accepted h step d sheet w m =
-      record {
-        events = [];
-        went = nothing;
-        good = (tells_none set sheet w o (sym (same_refusal set d ps fs sheet o w s m) ∙ sym step.fault), made set d ps fs sheet o w s m (Ok tt) t step);
-      }
+    (set : Shape → Bool) (ps : List Point) (fs : List Face) where
+  module _ (o : Offering) (s t : State) where
+    pub offer_accepted : (h : S) → OfferStep set ps fs o s (Ok tt) t → Offers {X = Unit {0}} does fails set ps fs (o ∷ []) s t h (Ok tt) h
+    unfolding Offers
+    offer_accepted h step d w m =
+        let told = subst (λ n. Tells 0 (told_of w) (told_of (sorted_in set (sheet_in d ps fs) w o n)) [] (Ok (tt {0}))) (refuses set ps fs o s d w m (Ok tt) t step)
+        (quiet 0 (told_of w) [] (Ok tt) refl refl refl) in
+        record { events = []; went = nothing; good = (told, made set ps fs o s d w m (Ok tt) t step) }
 
-  pub offer_refused : (X : Type 0) (h h' : S) (e : OfferFault) (n : Notice) → OfferStep set ps fs o s (Err e) t → n ≡ notice_of_offer e → (r : Result X E)
-      → Refuses does fails n o h r h' → Offers does fails set ps fs (o ∷ []) s t h r h'
-  unfolding Refuses Offers
-  offer_refused X h h' e n step why (Ok x) p d sheet w m =
-      let is = sym (same_refusal set d ps fs sheet o w s m) ∙ sym step.fault ∙ ap Some (sym why) in
-      record { events = p.events; went = p.went; good = (tells_one set sheet w o n is p.events p.good, made set d ps fs sheet o w s m (Err e) t step) }
-  offer_refused X h h' e n step why (Err x) p d sheet w m =
-      let is = sym (same_refusal set d ps fs sheet o w s m) ∙ sym step.fault ∙ ap Some (sym why) in
-      record {
-        events = p.events;
-        call = p.call;
-        before = p.before;
-        went = p.went;
-        failed = p.failed;
-        part = tells_part_of_one set sheet w o n is p.events p.call p.part;
-      }
+    pub offer_refused : (X : Type 0) (h h' : S) (e : OfferFault) (n : Notice) → OfferStep set ps fs o s (Err e) t → n ≡ notice_of_offer e → (r : Result X E)
+        → Refuses does fails n o h r h' → Offers does fails set ps fs (o ∷ []) s t h r h'
+    unfolding Refuses Offers
+    offer_refused X h h' e n step why r work d w m =
+        let sheet = sheet_in d ps fs in
+        let is = ap (λ k. told_of (sorted_in set sheet w o k)) (sym (refuses set ps fs o s d w m (Err e) t step)) ∙ ap (λ k. told_of (sorted_in set sheet w o (Some k))) (sym why) ∙ told_refused set sheet w o n in
+        ran_after does fails (Offered set d ps fs w (o ∷ []) t) (Tells 0 nothing_told (refusal_told n o)) h h h' [] nothing
+        (λ es how told. (subst (λ k. Tells 0 (told_of w) k es how) (sym is) (tells_behind 0 (told_of w) (refusal_told n o) es how told), if_ok (made set ps fs o s d w m (Err e) t step) how))
+        r work
+
+  pub none_offered : (s : State) (h : S) → Offers {X = Unit {0}} does fails set ps fs [] s s h (Ok tt) h
+  unfolding Offers
+  none_offered s h d w m = record { events = []; went = nothing; good = (quiet 0 (told_of w) [] (Ok tt) refl refl refl, m) }
+
+  pub offers_then : (os more : List Offering) (s t u : State) (h i j : S) (r : Result (Unit {0}) E)
+      → Offers {X = Unit {0}} does fails set ps fs os s t h (Ok tt) i → Offers does fails set ps fs more t u i r j → Offers does fails set ps fs (os ++ more) s u h r j
+  unfolding Offers
+  offers_then os more s t u h i j r first second d w m =
+      let sheet = sheet_in d ps fs in
+      let v = walked set sheet w os in
+      let a = first d w m in
+      ran_after does fails (Offered set d ps fs w (os ++ more) u) (Offered set d ps fs v more u) h i j a.events a.went
+      (λ es how b.
+      subst (λ k. Tells 0 (told_of w) (told_of k) (a.events ++ es) how × IfOk how (λ x. Made set d ps fs k u)) (sym (fold-append (offered set sheet) w os more))
+      (tells_then 0 0 (told_of w) (told_of v) (told_of (walked set sheet v more)) a.events es tt how a.good.0 b.0, b.1))
+      r (second d v a.good.1)
+
+  -- a call fails at a pair, and more pairs were to be offered
+  pub offers_short : (os later all : List Offering) (o : Offering) (s t u v : State) (h i j : S) (e : E) (r : Result (Unit {0}) E) → r ≡ Err e → all ≡ os ++ (o ∷ later)
+      → Offers {X = Unit {0}} does fails set ps fs os s t h (Ok tt) i → Offers {X = Unit {0}} does fails set ps fs (o ∷ []) t u i (Err e) j → Offers does fails set ps fs all s v h r j
+  unfolding Offers
+  offers_short os later all o s t u v h i j e r is parts first second d w m =
+      let sheet = sheet_in d ps fs in
+      let tried = os ++ (o ∷ []) in
+      let before = walked set sheet w tried in
+      let on = goes_on set sheet before later in
+      let pairs : all ≡ tried ++ later = parts ∙ sym (append_assoc os (o ∷ []) later) in
+      let end = ap (λ l. told_of (walked set sheet w l)) pairs ∙ ap told_of (fold-append (offered set sheet) w tried later) ∙ on.1 in
+      ran_short does fails (Offered set d ps fs w all v) (Offered set d ps fs w tried u) h j e r is
+      (λ es call told. (tells_short (told_of w) (told_of before) on.0 (told_of (walked set sheet w all)) es call end told.0, tt))
+      (offers_then os (o ∷ []) s t u h i j (Err e) first second d w m)

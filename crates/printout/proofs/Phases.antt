@@ -1,92 +1,94 @@
 -- A run part by part: a file is read, and what follows it.
-use Rattle.std.proofs.Common.{◌≡◌, ℕ, false, if◌then◌else◌, List, [], ◌∷◌, ◌++◌, Some, None, refl, sym, ap, ◌∙◌, append-nil}
-use Rattle.hosts.specs.Events.{Event, Read, Call, Reading, Printing, printed, stored, files_read, unread, came}
-use Rattle.hosts.specs.Works.{IsPrinted, IsPrintedInPart}
+use Rattle.std.proofs.Common.{◌≡◌, ℕ, false, if◌then◌else◌, List, [], ◌∷◌, ◌++◌, Some, None, Ok, Err, Result, IfOk, refl, sym, ap, ◌∙◌, append-nil}
+use Rattle.hosts.specs.Events.{Event, Read, Call, Reading, printed, stored, files_read, unread, came}
+use Rattle.hosts.specs.Works.{unread_by}
 use Rattle.hosts.proofs.Fronts.{front_of}
-use Rattle.hosts.proofs.Histories.{prints_store_nothing, prints_read_nothing}
 use Rattle.sheet.specs.declared.notices.Notice.{Notice}
-use Rattle.printout.specs.Outcomes.{same_file, EndsWith, StopsWith}
-use Rattle.printout.specs.Plans.{Plan, fault, printout, printout_by, sheet, draft}
 use Rattle.inspection.specs.PairBytes.{offers_in}
-use Rattle.printout.specs.Walks.{just_opened, walked, refusal_lines}
 use Rattle.motion.specs.Rows.{delivered}
+use Rattle.printout.specs.Outcomes.{same_file, EndsWith, StopsWith}
+use Rattle.printout.specs.Phases.{plan_told, Ends, Comes}
+use Rattle.printout.specs.Plans.{Plan, fault, printout, printout_by, sheet, draft}
 use Rattle.printout.specs.Printouts.{notice_line}
+use Rattle.printout.specs.Progress.{◌⊕◌, told_by, LeavesUntold, TellsText}
+use Rattle.printout.specs.Walks.{just_opened, walked, refusal_lines}
 use Rattle.printout.specs.declared.endings.Ending.{Ending}
 use Rattle.printout.specs.declared.endings.Ending.TheVariants.{Complete, Faulty}
 use Rattle.printout.specs.declared.plan_files.PlanFile.{PlanFile}
 use Rattle.printout.specs.declared.plan_files.PlanFile.TheVariants.{Pairs}
+use Rattle.printout.proofs.Telling.{told_nothing, never_reads}
 
--- ---- of a plan
 module _ (p : Plan) (needed_in : ℕ → List PlanFile) where
-  -- ---- with a fault: its line is printed after the file that has it
-  module _ (n : Notice) (is : fault p ≡ Some n) (f : PlanFile) (size : ℕ) (bytes : List ℕ) (last : needed_in 0 ≡ f ∷ []) where
-    made : printout p ≡ printout_by p (Some n)
-    made = ap (printout_by p) is
+  -- ---- a whole run to its end, and one that a call stops
+  abbrev pub Settles : List (Event PlanFile) → Result Ending (Call PlanFile) → Type 0
+  Settles es (Ok end) = EndsWith p needed_in es end
+  Settles es (Err call) = StopsWith p needed_in es call
 
-    no_claim : {A : Type 0} → fault p ≡ None → A
-    no_claim none = let e : Some n ≡ None = sym is ∙ none in cc
-
-    pub ends_faulty : (es : List (Event PlanFile)) (end : Ending) → IsPrinted (notice_line n) es → end ≡ Faulty → EndsWith p needed_in (Read f size bytes ∷ es) end
-    ends_faulty es end print e =
-        record {
-          text = print.whole ∙ ap (λ o. o.text) (sym made);
-          stored = prints_store_nothing es print.alone ∙ ap (λ o. o.stored) (sym made);
-          ending = e ∙ ap (λ o. o.ending) (sym made);
-          complete = (λ c. absurd (faulty_complete (sym e ∙ c)), λ none. no_claim none);
-          pieces = 0;
-          files = ap (λ l. f ∷ l) (prints_read_nothing es print.alone) ∙ sym last;
-          claim = λ none. no_claim none;
-        }
-      where
-        faulty_complete : Faulty ≡ Complete → ⊥
-        faulty_complete c = cc
-
-    pub stops_faulty : (es : List (Event PlanFile)) (call : Call PlanFile) → IsPrintedInPart (notice_line n) es call → StopsWith p needed_in (Read f size bytes ∷ es) call
-    stops_faulty es call print =
-        record {
-          text = front_of (printed es) print.rest (printout p).text (ap (λ o. o.text) made ∙ print.parts);
-          stored = front_of (stored es) [] (printout p).stored (ap (λ o. o.stored) made ∙ sym (append-nil (stored es) ∙ prints_store_nothing es print.alone));
-          pieces = 0;
-          files = front_of ((f ∷ files_read es) ++ unread call) [] (needed_in 0)
-              (last ∙ sym (append-nil ((f ∷ files_read es) ++ unread call) ∙ (λ i. (f ∷ prints_read_nothing es print.alone i) ++ unread (print.failed i))));
-          told = λ g c. absurd (printing_reading g (sym print.failed ∙ c));
-        }
-      where
-        printing_reading : (g : PlanFile) → Printing ≡ Reading g → ⊥
-        printing_reading g c = cc
-
-  -- ---- its first file can't be read
-  pub stops_unread : (f : PlanFile) (later : List PlanFile) → needed_in 0 ≡ f ∷ later → StopsWith p needed_in [] (Reading f)
-  stops_unread f later first =
+  pub settles : (es : List (Event PlanFile)) (how : Result Ending (Call PlanFile)) → Comes p needed_in es how → Settles es how
+  settles es (Ok end) c =
+      let all = c.parts ∙ ap (λ r. told_by es ⊕ r) c.ends.told ∙ told_nothing (told_by es) in
       record {
-        text = front_of [] (printout p).text (printout p).text refl;
-        stored = front_of [] (printout p).stored (printout p).stored refl;
-        pieces = 0;
-        files = front_of (f ∷ []) later (needed_in 0) first;
-        told = λ g c. refl;
+        text = sym (ap (λ l. l.text) all);
+        stored = sym (ap (λ l. l.stored) all);
+        ending = c.ends.ending;
+        complete = c.ends.complete;
+        pieces = c.pieces;
+        files = sym (c.files ∙ (λ i. append-nil (files_read es) i ++ c.ends.read i) ∙ append-nil (files_read es));
+        claim = c.ends.claim;
+      }
+  settles es (Err call) c =
+      record {
+        text = front_of (printed es) c.rest.text (printout p).text (ap (λ l. l.text) c.parts);
+        stored = front_of (stored es) c.rest.stored (printout p).stored (ap (λ l. l.stored) c.parts);
+        pieces = c.pieces;
+        files = front_of (files_read es ++ unread call) c.later (needed_in c.pieces) c.files;
+        told = λ f is. c.told f (ap unread is);
       }
 
-  -- ---- a file is read, and then all goes as it may
-  module _ (f : PlanFile) (size : ℕ) (bytes : List ℕ) (before : ℕ → List PlanFile) (more : (n : ℕ) → before n ≡ f ∷ needed_in n) (other : same_file Pairs f ≡ false) (es : List (Event PlanFile)) where
-    pub ends_after : (end : Ending) → EndsWith p needed_in es end → EndsWith p before (Read f size bytes ∷ es) end
-    ends_after end e =
-        record {
-          text = e.text;
-          stored = e.stored;
-          ending = e.ending;
-          complete = e.complete;
-          pieces = e.pieces;
-          files = ap (λ l. f ∷ l) e.files ∙ sym (more e.pieces);
-          claim = e.claim;
-        }
+  -- ---- the line of a fault is printed after the file that has it
+  pub comes_faulty : (n : Notice) → fault p ≡ Some n → (f : PlanFile) (size : ℕ) (bytes : List ℕ) → needed_in 0 ≡ f ∷ [] → (es : List (Event PlanFile)) (how : Result Ending (Call PlanFile))
+      → TellsText (notice_line n) (λ end. end ≡ Faulty) es how → Comes p needed_in (Read f size bytes ∷ es) how
+  comes_faulty n is f size bytes last es how (told, faulty) =
+      record {
+        rest = told.rest;
+        parts = ap (λ o. record { text = o.text; stored = o.stored }) made ∙ told.parts;
+        pieces = 0;
+        later = [];
+        files = last ∙ sym (append-nil (f ∷ files_read es ++ unread_by how) ∙ ap (λ l. f ∷ l) told.files);
+        ends = ends how faulty told.untold;
+        told = λ g stopped. absurd (never_reads es how g told.files stopped);
+      }
+    where
+      made : printout p ≡ printout_by p (Some n)
+      made = ap (printout_by p) is
 
-    pub stops_after : (call : Call PlanFile) → StopsWith p needed_in es call → StopsWith p before (Read f size bytes ∷ es) call
-    stops_after call s =
-        record {
-          text = s.text;
-          stored = s.stored;
-          pieces = s.pieces;
-          files = front_of ((f ∷ files_read es) ++ unread call) s.files.rest (before s.pieces) (more s.pieces ∙ ap (λ l. f ∷ l) s.files.parts);
-          told = λ g c. s.told g c
-              ∙ ap (λ b. refusal_lines (walked delivered (sheet p) (just_opened (draft p)) (offers_in ((if b then bytes else []) ++ came (same_file Pairs) es)))) (sym other);
-        }
+      ends : (how : Result Ending (Call PlanFile)) → IfOk how (λ end. end ≡ Faulty) → LeavesUntold how told.rest → IfOk how (Ends p told.rest [])
+      ends (Err call) faulty untold = tt
+      ends (Ok end) faulty untold =
+          record {
+            told = untold;
+            read = refl;
+            ending = faulty ∙ ap (λ o. o.ending) (sym made);
+            complete = (λ c. let e : Faulty ≡ Complete = sym faulty ∙ c in cc, λ none. let e : Some n ≡ None = sym is ∙ none in cc);
+            claim = λ none. let e : Some n ≡ None = sym is ∙ none in cc;
+          }
+
+  -- ---- its first file can't be read
+  pub comes_unread : (f : PlanFile) (later : List PlanFile) → needed_in 0 ≡ f ∷ later → Comes p needed_in [] (Err (Reading f))
+  comes_unread f later first = record { rest = plan_told p; parts = refl; pieces = 0; later = later; files = first; ends = tt; told = λ g is. refl }
+
+  -- ---- a file is read, and then all goes as it may
+  pub comes_after : (f : PlanFile) (size : ℕ) (bytes : List ℕ) (before : ℕ → List PlanFile) → ((n : ℕ) → before n ≡ f ∷ needed_in n) → same_file Pairs f ≡ false
+      → (es : List (Event PlanFile)) (how : Result Ending (Call PlanFile)) → Comes p needed_in es how → Comes p before (Read f size bytes ∷ es) how
+  comes_after f size bytes before more other es how c =
+      record {
+        rest = c.rest;
+        parts = c.parts;
+        pieces = c.pieces;
+        later = c.later;
+        files = more c.pieces ∙ ap (λ l. f ∷ l) c.files;
+        ends = c.ends;
+        told = λ g is.
+            c.told g is
+            ∙ ap (λ b. refusal_lines (walked delivered (sheet p) (just_opened (draft p)) (offers_in ((if b then bytes else []) ++ came (same_file Pairs) es)))) (sym other);
+      }

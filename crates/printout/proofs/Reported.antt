@@ -1,53 +1,51 @@
 -- A run after the step: its pairs are offered, and then what is found is reported.
-use Rattle.std.proofs.Common.{◌≡◌, ℕ, ◌+◌, ◌≤◌, Bool, false, not, IsTrue, IsFalse, ◌||◌, if◌then◌else◌, List, [], ◌∷◌, ◌++◌, All, length, take, replicate, Some, None, Ok, Err, Result, IfOk, OnOk, refl, sym, ap, ◌∙◌, subst, arith, append_assoc, append-nil}
+use Rattle.std.proofs.Common.{◌≡◌, ℕ, ◌+◌, ◌≤◌, true, false, not, IsTrue, ◌||◌, if◌then◌else◌, List, [], ◌∷◌, ◌++◌, All, length, take, replicate, Some, None, Ok, Err, Result, IfOk, OnOk, refl, sym, ap, ◌∙◌, subst, arith, append-nil}
 use Rattle.std.proofs.lemmas.Bool.{le-ltb}
-use Rattle.std.proofs.lemmas.List.Concat.{flat_map-append}
-use Rattle.std.proofs.lemmas.List.Elements.{All-head, All-tail, All-nil, All-take}
-use Rattle.std.proofs.lemmas.List.Sums.{sum_by-append, fold-append}
-use Rattle.hosts.specs.Events.{Event, Call, Reading, Printing, printed, stored, files_read, unread, asked, came, printed_by, stored_by, file_read_by, asked_by, came_by}
-use Rattle.hosts.specs.Works.{IsFront, Prints}
-use Rattle.hosts.proofs.Fronts.{front_of, front_of_front}
-use Rattle.hosts.proofs.Histories.{went_on, prints_store_nothing, prints_read_nothing, not_asked, not_came}
+use Rattle.std.proofs.lemmas.List.Elements.{All-head, All-tail, All-nil, All-take, All-replicate}
+use Rattle.std.proofs.lemmas.List.Sums.{fold-append}
+use Rattle.hosts.specs.Events.{Event, Call, files_read, unread, came}
+use Rattle.hosts.specs.Works.{Prints, Ran, unread_by}
+use Rattle.hosts.proofs.Ran.{ran_after, ran_short}
 use Rattle.sheet.specs.Checks.{first_fit}
 use Rattle.sheet.proofs.FirstFit.{past}
 use Rattle.sheet.specs.declared.drafts.Draft.{Draft}
 use Rattle.sheet.specs.declared.rows.Point.{Point}
 use Rattle.sheet.specs.declared.rows.Face.{Face}
-use Rattle.motion.specs.declared.shapes.Shape.{Shape}
 use Rattle.motion.specs.Rows.{delivered}
 use Rattle.inspection.specs.declared.kinds.ListKind.{ListKind}
 use Rattle.inspection.specs.declared.kinds.ListKind.TheVariants.{Vf, Ee}
 use Rattle.inspection.specs.declared.names.VfName.{VfName}
 use Rattle.inspection.specs.declared.names.EeName.{EeName}
 use Rattle.inspection.specs.Claims.{Claim, Findings}
+use Rattle.inspection.specs.Lists.{Contents}
 use Rattle.inspection.specs.declared.offerings.Offering.{Offering}
 use Rattle.inspection.specs.Offers.{lacks_rows}
 use Rattle.inspection.specs.Runs.{Accepted, Opened, opened}
 use Rattle.inspection.specs.Sheets.{Sheet, sheet_in}
-use Rattle.inspection.specs.States.{State, Core, core_at_start}
+use Rattle.inspection.specs.States.{State, core_at_start}
 use Rattle.inspection.specs.Tests.{Naming, vf_naming, ee_naming}
 use Rattle.inspection.specs.PairBytes.{offers_in}
 use Rattle.report.specs.Faults.{place_of}
 use Rattle.report.specs.Reports.{View, check, checks_from, entry_checks, entry_limit, len_checks, numbered, report_text}
-use Rattle.printout.specs.Outcomes.{same_file, StopsWith}
-use Rattle.printout.specs.Phases.{FitsFile, HoldsPlan, PairsRan}
-use Rattle.printout.specs.Plans.{Plan, printout, printout_by, sheet, draft, walk, report_of, state_found}
-use Rattle.printout.specs.Progress.{Made, Begins, Reportable, pairs_came, ReadsPairs, TellsFileInPart, OffersFile}
+use Rattle.printout.specs.Outcomes.{same_file}
+use Rattle.printout.specs.Phases.{plan_told, Ends, Comes, FitsFile, HoldsPlan, AfterStep}
+use Rattle.printout.specs.Plans.{Plan, printout, printout_by, sheet, draft, walk, report_of, ClaimOfPlan}
+use Rattle.printout.specs.Progress.{Lists, Made, Begins, Reportable, only_text, nothing_told, ◌⊕◌, told_by, told_of, LeavesUntold, Tells, TellsText, pairs_came, CameTo, TellsFile, OfferedFile, OffersFile}
 use Rattle.printout.specs.Walks.{Walk, Found, depth, places, just_opened, offered, walked, refusal_lines, refused_pairs}
 use Rattle.printout.specs.declared.endings.Ending.{Ending}
 use Rattle.printout.specs.declared.endings.Ending.TheVariants.{Complete}
 use Rattle.printout.specs.declared.plan_files.PlanFile.{PlanFile}
-use Rattle.printout.specs.declared.plan_files.PlanFile.TheVariants.{Pairs}
-use Rattle.printout.proofs.Telling.{goes_on}
+use Rattle.printout.specs.declared.plan_files.PlanFile.TheVariants.{Sheet as SheetFile, Step as StepFile, Pairs}
+use Rattle.printout.proofs.Files.{none_of, first_pairs, came_quiet, asked_quiet}
+use Rattle.printout.proofs.Offers.{goes_on}
+use Rattle.printout.proofs.Telling.{told_assoc, told_nothing, tells_then, tells_behind, never_reads, unread_untold, told_print}
 
 -- ---- no check of the report fits entries that are of the sheet
-inside_not : (b : Bool) → IsTrue b → not b ≡ false
-inside_not b h = ap not h
-
-pub no_stray : {E : Type 0} (n : Naming E) (l : ListKind) (v : View) (i : ℕ) (es : List E) → All (λ e. IsTrue (n.inside v.sheet e)) es → first_fit (checks_from n l v i es) ≡ None
+no_stray : {E : Type 0} (n : Naming E) (l : ListKind) (v : View) (i : ℕ) (es : List E) → All (λ e. IsTrue (n.inside v.sheet e)) es → first_fit (checks_from n l v i es) ≡ None
 no_stray n l v i [] all = refl
 no_stray n l v i (e ∷ es) all =
-    ap (λ b. if b then Some (check b 19 i (place_of l)).tells else first_fit (checks_from n l v (i + 1) es)) (inside_not (n.inside v.sheet e) (All-head (λ x. IsTrue (n.inside v.sheet x)) e es all))
+    let inside = All-head (λ x. IsTrue (n.inside v.sheet x)) e es all in
+    ap (λ b. if not b then Some (check (not b) 19 i (place_of l)).tells else first_fit (checks_from n l v (i + 1) es)) inside
     ∙ no_stray n l v (i + 1) es (All-tail (λ x. IsTrue (n.inside v.sheet x)) e es all)
 
 pub no_faults : (v : View) (vf : List VfName) (ee : List EeName) → Reportable v vf ee → None ≡ first_fit (len_checks v vf ee)
@@ -58,257 +56,160 @@ no_faults v vf ee (rows, (vfs, ees)) =
     sym (ap (λ b. if b then Some (check b 16 0 0).tells else first_fit (entry_checks vf_naming Vf v vf ++ entry_checks ee_naming Ee v ee)) rows
     ∙ sym (past (entry_checks vf_naming Vf v vf) (entry_checks ee_naming Ee v ee) (sym first)) ∙ second)
 
--- ---- the claim looks at nothing of the lists but their names
-pub claim_found : (set : Shape → Bool) (d : Draft) (s : Sheet) (h : List Accepted) (f : Found) (t : State) → t.core ≡ f.core → t.vf.entries ≡ f.vf → t.ee.entries ≡ f.ee → Claim set d s h t → Claim set d s h (state_found f)
-claim_found set d s h f t core vf ee c =
-    let same : State = record { core = f.core; vf = record { entries = f.vf; rest = t.vf.rest; lender = t.vf.lender }; ee = record { entries = f.ee; rest = t.ee.rest; lender = t.ee.lender } } in
-    let e : t ≡ same = (λ i. record { core = core i; vf = record { entries = vf i; rest = t.vf.rest; lender = t.vf.lender }; ee = record { entries = ee i; rest = t.ee.rest; lender = t.ee.lender } }) in
-    let k : Claim set d s h same = subst (λ u. Claim set d s h u) e c in
-    record {
-      draft = k.draft;
-      vf = k.vf;
-      ee = k.ee;
-      again = k.again;
-      of_sheet = k.of_sheet;
-      offers = k.offers;
-    }
-
-module _ (d : Draft) (ps : List Point) (fs : List Face) where
-  -- ---- an inspection that is just opened has made no step of the walk
-  none_made : (s : State) → IsFalse (lacks_rows d ps fs) → Opened d s → s.core ≡ core_at_start d depth → length s.vf.rest ≡ places → length s.ee.rest ≡ places
-      → Made delivered d ps fs (sheet_in d ps fs) (just_opened d) s
-  none_made s rows o core vf ee =
-      record {
-        rows = rows;
-        tables = refl;
-        draft = refl;
-        core = core;
-        vf = o.vf;
-        ee = o.ee;
-        vf_places = ap (λ es. length es + length s.vf.rest) o.vf ∙ omega (arith, vf);
-        ee_places = ap (λ es. length es + length s.ee.rest) o.ee ∙ omega (arith, ee);
-        run = opened o;
-        vf_inside = All-nil (λ e. IsTrue (vf_naming.inside (sheet_in d ps fs) e));
-        ee_inside = All-nil (λ e. IsTrue (ee_naming.inside (sheet_in d ps fs) e));
-      }
-
-  -- ---- of a plan that the tables hold, and of the events that offer its pairs
-  module _ (p : Plan) (h : HoldsPlan p d ps fs) (es : List (Event PlanFile)) where
-    abbrev pub end : Walk
-    end = walked delivered (sheet_in d ps fs) (just_opened d) (pairs_came es)
-
-    made : printout p ≡ printout_by p None
-    made = ap (printout_by p) h.no_fault
-
-    -- the walk over any pairs
-    pub same_walk : (os : List Offering) → walked delivered (sheet_in d ps fs) (just_opened d) os ≡ walked delivered (sheet p) (just_opened (draft p)) os
-    same_walk os = λ i. walked delivered (h.sheet i) (just_opened (h.draft i)) os
-
-    pub whole_walk : p.pairs ≡ came (same_file Pairs) es → end ≡ walk p
-    whole_walk all = same_walk (pairs_came es) ∙ ap (λ bytes. walked delivered (sheet p) (just_opened (draft p)) (offers_in bytes)) (sym all)
-
-    -- the first of its pairs
-    pub first_walk : IsFront (pairs_came es) (offers_in p.pairs) → IsFront (refusal_lines end) (refusal_lines (walk p)) × IsFront (refused_pairs end) (refused_pairs (walk p))
-    first_walk first =
-        let more = goes_on delivered (sheet p) (walked delivered (sheet p) (just_opened (draft p)) (pairs_came es)) first.rest in
-        let all : walked delivered (sheet p) (walked delivered (sheet p) (just_opened (draft p)) (pairs_came es)) first.rest ≡ walk p =
-        sym (fold-append (offered delivered (sheet p)) (just_opened (draft p)) (pairs_came es) first.rest) ∙ ap (walked delivered (sheet p) (just_opened (draft p))) (sym first.parts) in (
-          subst (λ w. IsFront (refusal_lines w) (refusal_lines (walk p))) (sym (same_walk (pairs_came es))) (subst (λ w. IsFront (refusal_lines (walked delivered (sheet p) (just_opened (draft p)) (pairs_came es))) (refusal_lines w)) all more.0),
-          subst (λ w. IsFront (refused_pairs w) (refused_pairs (walk p))) (sym (same_walk (pairs_came es))) (subst (λ w. IsFront (refused_pairs (walked delivered (sheet p) (just_opened (draft p)) (pairs_came es))) (refused_pairs w)) all more.1),
-        )
-
-    -- a call fails while they are offered
-    pub stops_offering : (c : Call PlanFile) → FitsFile Pairs p.pairs es → TellsFileInPart (just_opened d) end es c → StopsWith p (λ n. replicate n Pairs) es c
-    stops_offering c fits part =
-        let front = first_walk (part.first p.pairs fits) in
-        let report = report_of p (walk p).found in
-        let lines = front_of_front (printed es) (refusal_lines end) (refusal_lines (walk p)) part.lines front.0 in
-        let pairs = front_of_front (stored es) (refused_pairs end) (refused_pairs (walk p)) part.pairs front.1 in
-        record {
-          text = subst (λ o. IsFront (printed es) o.text) (sym made)
-              (front_of_front (printed es) (refusal_lines (walk p)) (refusal_lines (walk p) ++ report) lines (front_of (refusal_lines (walk p)) report (refusal_lines (walk p) ++ report) refl));
-          stored = subst (λ o. IsFront (stored es) o.stored) (sym made) pairs;
-          pieces = part.files.pieces;
-          files = front_of (files_read es ++ unread c) [] (replicate part.files.pieces Pairs) (sym part.files.each ∙ sym (append-nil (files_read es ++ unread c)));
-          told = λ f is. sym (part.told f is) ∙ ap refusal_lines (same_walk (pairs_came es));
-        }
-
-    -- ---- and then the report, whose events read nothing
-    module _ (gs : List (Event PlanFile)) (quiet : files_read gs ≡ []) where
-      none : All (λ f. same_file Pairs f ≡ false) (files_read gs)
-      none = subst (All (λ f. same_file Pairs f ≡ false)) (sym quiet) (All-nil (λ f. same_file Pairs f ≡ false))
-
-      pub came-both : came (same_file Pairs) (es ++ gs) ≡ came (same_file Pairs) es
-      came-both = flat_map-append (came_by (same_file Pairs)) es gs ∙ ap (λ l. came (same_file Pairs) es ++ l) (not_came (same_file Pairs) gs none) ∙ append-nil (came (same_file Pairs) es)
-
-      pub asked-both : asked (same_file Pairs) (es ++ gs) ≡ asked (same_file Pairs) es
-      asked-both = let a = sum_by-append (asked_by (same_file Pairs)) es gs in let b = not_asked (same_file Pairs) gs none in omega (arith, a, b)
-
-      pub fits-both : FitsFile Pairs p.pairs (es ++ gs) → FitsFile Pairs p.pairs es
-      fits-both fits = sym came-both ∙ fits ∙ ap (λ n. take n p.pairs) asked-both
-
-      pub files-both : files_read (es ++ gs) ≡ files_read es
-      files-both = flat_map-append file_read_by es gs ∙ ap (λ l. files_read es ++ l) quiet ∙ append-nil (files_read es)
-
-      both-text : (view : View) → (t : State) → Made delivered d ps fs (sheet_in d ps fs) end t
-          → view ≡ record { set = delivered; core = t.core; sheet = sheet_in d ps fs; lacks_rows = lacks_rows d ps fs }
-          → report_text view t.vf.entries t.ee.entries ≡ report_of p end.found
-      both-text view t m is =
-          (λ i. report_text (is i) t.vf.entries t.ee.entries)
-          ∙ (λ i. report_text (record { set = delivered; core = m.core i; sheet = h.sheet i; lacks_rows = m.rows i }) (m.vf i) (m.ee i))
-
+-- ---- an inspection that is just opened has made no step of the walk
 pub made_none : (d : Draft) (s : State) → Opened d s → s.core ≡ core_at_start d depth → length s.vf.rest ≡ places → length s.ee.rest ≡ places → Begins d s
 unfolding Begins
-made_none d s o core vf ee ps fs rows = none_made d ps fs s rows o core vf ee
+made_none d s o core vf ee ps fs rows =
+    let same : s.core.draft ≡ d = ap (λ c. c.draft) core in
+    record {
+      draft = same;
+      found = λ i. record { core = core i; vf = o.vf i; ee = o.ee i };
+      rows = ap (λ k. lacks_rows k ps fs) same ∙ rows;
+      vf = empty vf_naming (sheet_in s.core.draft ps fs) s.vf o.vf vf;
+      ee = empty ee_naming (sheet_in s.core.draft ps fs) s.ee o.ee ee;
+      run = opened (subst (λ k. Opened k s) (sym same) o);
+    }
+  where
+    empty : {E : Type 0} (n : Naming E) (sheet : Sheet) (list : Contents E) → list.entries ≡ [] → length list.rest ≡ places → Lists n sheet list
+    empty n sheet list none room =
+        record {
+          room = ap (λ es. length es + length list.rest) none ∙ omega (arith, room);
+          inside = subst (All (λ e. IsTrue (n.inside sheet e))) (sym none) (All-nil (λ e. IsTrue (n.inside sheet e)));
+        }
 
--- ---- an inspection that has made a walk can be reported
-module _ (d : Draft) (ps : List Point) (fs : List Face) (w : Walk) (t : State) (m : Made delivered d ps fs (sheet_in d ps fs) w t) where
-  pub same_draft : t.core.draft ≡ d
-  same_draft = ap (λ (k : Core). k.draft) m.core ∙ m.draft
+-- ---- of a plan that the tables hold
+module _ (p : Plan) (d : Draft) (ps : List Point) (fs : List Face) (h : HoldsPlan p d ps fs) where
+  abbrev over : List Offering → Walk
+  over os = walked delivered (sheet_in d ps fs) (just_opened d) os
 
-  pub rows_stand : lacks_rows t.core.draft ps fs ≡ false
-  rows_stand = ap (λ k. lacks_rows k ps fs) same_draft ∙ m.rows
+  same_walk : (os : List Offering) → over os ≡ walked delivered (sheet p) (just_opened (draft p)) os
+  same_walk os = λ i. walked delivered (h.sheet i) (just_opened (h.draft i)) os
 
-  pub vf_listed : All (λ e. IsTrue (vf_naming.inside (sheet_in t.core.draft ps fs) e)) t.vf.entries
-  vf_listed =
-      subst (λ es. All (λ e. IsTrue (vf_naming.inside (sheet_in t.core.draft ps fs) e)) es) (sym m.vf)
-      (subst (λ k. All (λ e. IsTrue (vf_naming.inside (sheet_in k ps fs) e)) w.found.vf) (sym same_draft) m.vf_inside)
+  made : printout p ≡ printout_by p None
+  made = ap (printout_by p) h.no_fault
 
-  pub ee_listed : All (λ e. IsTrue (ee_naming.inside (sheet_in t.core.draft ps fs) e)) t.ee.entries
-  ee_listed =
-      subst (λ es. All (λ e. IsTrue (ee_naming.inside (sheet_in t.core.draft ps fs) e)) es) (sym m.ee)
-      (subst (λ k. All (λ e. IsTrue (ee_naming.inside (sheet_in k ps fs) e)) w.found.ee) (sym same_draft) m.ee_inside)
+  whole : plan_told p ≡ told_of (walk p) ⊕ only_text (report_of p (walk p).found)
+  whole = λ i. record { text = (made i).text; stored = (ap (λ o. o.stored) made ∙ sym (append-nil (refused_pairs (walk p)))) i }
 
--- ---- whole: offered, and then reported
-pub rows_there : (d : Draft) (ps : List Point) (fs : List Face) → d.points ≤ length ps → d.faces ≤ length fs → lacks_rows d ps fs ≡ false
-rows_there d ps fs a b = λ i. le-ltb (length ps) d.points a i || le-ltb (length fs) d.faces b i
-
-module _ {S E : Type 0} (does : S → Event PlanFile → S → Type 0) (fails : S → Call PlanFile → E → S → Type 0) (d : Draft) (ps : List Point) (fs : List Face)
-    (s t : State) (start : Made delivered d ps fs (sheet_in d ps fs) (just_opened d) s) (h m : S) where
-  -- a call fails while pairs are offered
-  pub stopped_offering : (X : Type 0) (e : E) → OffersFile {X = X} does fails delivered ps fs s t h (Err e) m → PairsRan does fails d ps fs h (Err e) m
-  unfolding OffersFile
-  stopped_offering X e offers =
-      let a = offers d (sheet_in d ps fs) (just_opened d) start in
+  -- a call fails while its pairs are offered
+  pub stops_offering : (es : List (Event PlanFile)) (call : Call PlanFile) → TellsFile {X = Unit {0}} (just_opened d) (over (pairs_came es)) es (Err call) → FitsFile Pairs p.pairs es
+      → Comes p (λ n. replicate n Pairs) es (Err call)
+  stops_offering es call told fits =
+      let first = first_pairs told.is_last es p.pairs told.came fits in
+      let on = goes_on delivered (sheet_in d ps fs) (over (pairs_came es)) first.0 in
+      let report = only_text (report_of p (walk p).found) in
+      let rest = told.tells.rest in
+      let walk_on : told_of (walk p) ≡ told_by es ⊕ (rest ⊕ on.0) =
+      ap told_of (sym (same_walk (offers_in p.pairs)) ∙ ap over first.1 ∙ fold-append (offered delivered (sheet_in d ps fs)) (just_opened d) (pairs_came es) first.0)
+      ∙ on.1 ∙ ap (λ l. l ⊕ on.0) told.tells.parts ∙ told_assoc (told_by es) rest on.0 in
       record {
-        events = a.events;
-        call = a.call;
-        before = a.before;
-        went = a.went;
-        failed = a.failed;
-        part = (a.part.files, λ p holds fits. stops_offering d ps fs p holds a.events a.call fits a.part);
+        rest = rest ⊕ on.0 ⊕ report;
+        parts = whole ∙ ap (λ l. l ⊕ report) walk_on ∙ told_assoc (told_by es) (rest ⊕ on.0) report;
+        pieces = told.pieces;
+        later = [];
+        files = sym (append-nil (files_read es ++ unread call) ∙ told.tells.files);
+        ends = tt;
+        told = λ f is.
+            let none = unread_untold (Unit {0}) call rest f told.tells.untold is in
+            sym (ap (λ l. l.text) (told.tells.parts ∙ ap (λ r. told_by es ⊕ r) none ∙ told_nothing (told_by es))) ∙ ap refusal_lines (same_walk (pairs_came es));
       }
 
-  module _ (X : Type 0) (x : X) (offers : OffersFile {X = X} does fails delivered ps fs s t h (Ok x) m) where
-    -- so far the inspection has made the walk over the pairs that came
-    pub made_walk : (w : Walk) × Made delivered d ps fs (sheet_in d ps fs) w t
-    unfolding OffersFile
-    made_walk = let a = offers d (sheet_in d ps fs) (just_opened d) start in (walked delivered (sheet_in d ps fs) (just_opened d) (pairs_came a.events), a.good.1)
+  -- and then the report is printed
+  module _ (es : List (Event PlanFile)) (told : TellsFile {X = Unit {0}} (just_opened d) (over (pairs_came es)) es (Ok tt)) (last : told.is_last ≡ true) (t : State) (m : Made delivered d ps fs (over (pairs_came es)) t) where
+    abbrev report : List ℕ
+    report = report_text (record { set = delivered; core = t.core; sheet = sheet_in t.core.draft ps fs; lacks_rows = lacks_rows t.core.draft ps fs }) t.vf.entries t.ee.entries
 
-    pub reported : (r : Result Ending E) (view : View) (k : S) → view ≡ record { set = delivered; core = t.core; sheet = sheet_in d ps fs; lacks_rows = lacks_rows d ps fs }
-        → Prints does fails (report_text view t.vf.entries t.ee.entries) m r k → IfOk r (λ end. end ≡ Complete) → OnOk r (Findings delivered t) → PairsRan does fails d ps fs h r k
-    unfolding OffersFile
-    reported (Ok end) view k is print complete found =
-        let a = offers d (sheet_in d ps fs) (just_opened d) start in
-        let es = a.events in
-        let gs = print.events in
-        let told = a.good.0 in
-        let made_walk = a.good.1 in
-        let quiet = prints_read_nothing gs print.good.alone in
+    same_sheet : sheet_in t.core.draft ps fs ≡ sheet p
+    same_sheet = ap (λ k. sheet_in k ps fs) m.draft ∙ h.sheet
+
+    same_report : report ≡ report_of p (over (pairs_came es)).found
+    same_report = λ i. report_text (record { set = delivered; core = (m.found i).core; sheet = same_sheet i; lacks_rows = m.rows i }) (m.found i).vf (m.found i).ee
+
+    pub comes_reported : (gs : List (Event PlanFile)) (how : Result Ending (Call PlanFile)) → TellsText report (λ end. (end ≡ Complete) × Findings delivered t) gs how
+        → FitsFile Pairs p.pairs (es ++ gs) → Comes p (λ n. replicate n Pairs) (es ++ gs) how
+    comes_reported gs how print fits =
         record {
-          events = es ++ gs;
-          went = went_on does h m k es gs a.went print.went;
-          good = (
-            subst ReadsPairs (sym (flat_map-append file_read_by es gs ∙ ap (λ l. files_read es ++ l) quiet ∙ append-nil (files_read es))) told.files,
-            λ p holds fits.
-                let all = told.whole p.pairs (fits-both d ps fs p holds es gs quiet fits) in
-                let last = whole_walk d ps fs p holds es all in
-                let w = walked delivered (sheet_in d ps fs) (just_opened d) (pairs_came es) in
-                let out = made d ps fs p holds es in
-                record {
-                  text =
-                      flat_map-append printed_by es gs
-                      ∙ (λ i. sym told.lines i ++ (print.good.whole ∙ both-text d ps fs p holds es gs quiet view t made_walk is) i)
-                      ∙ ap (λ v. refusal_lines v ++ report_of p v.found) last ∙ ap (λ o. o.text) (sym out);
-                  stored =
-                      flat_map-append stored_by es gs ∙ (λ i. sym told.pairs i ++ prints_store_nothing gs print.good.alone i) ∙ append-nil (refused_pairs w)
-                      ∙ ap refused_pairs last ∙ ap (λ o. o.stored) (sym out);
-                  ending = complete ∙ ap (λ o. o.ending) (sym out);
-                  complete = (λ c. holds.no_fault, λ none. complete);
-                  pieces = told.files.pieces;
-                  files = files-both d ps fs p holds es gs quiet ∙ told.files.each;
-                  claim = λ none.
-                      let c = claim_found delivered d (sheet_in d ps fs) w.accepted w.found t made_walk.core made_walk.vf made_walk.ee (found d (sheet_in d ps fs) w.accepted made_walk.run) in
-                      let at : Walk → Type 0 = λ v. Claim delivered (draft p) (sheet p) v.accepted (state_found v.found) in
-                      subst at last
-                      (subst (λ q. Claim delivered (draft p) q w.accepted (state_found w.found)) holds.sheet
-                      (subst (λ q. Claim delivered q (sheet_in d ps fs) w.accepted (state_found w.found)) holds.draft c));
-                },
-          );
-        }
-    reported (Err e) view k is print complete found =
-        let a = offers d (sheet_in d ps fs) (just_opened d) start in
-        let es = a.events in
-        let gs = print.events in
-        let told = a.good.0 in
-        let made_walk = a.good.1 in
-        let quiet = prints_read_nothing gs print.part.alone in
-        let files : files_read (es ++ gs) ++ unread print.call ≡ files_read es =
-        (λ i. (flat_map-append file_read_by es gs ∙ ap (λ l. files_read es ++ l) quiet ∙ append-nil (files_read es)) i ++ unread (print.part.failed i)) ∙ append-nil (files_read es) in
-        record {
-          events = es ++ gs;
-          call = print.call;
-          before = print.before;
-          went = went_on does h m print.before es gs a.went print.went;
-          failed = print.failed;
-          part = (
-            subst ReadsPairs (sym files) told.files,
-            λ p holds fits.
-                let all = told.whole p.pairs (fits-both d ps fs p holds es gs quiet fits) in
-                let last = whole_walk d ps fs p holds es all in
-                let w = walked delivered (sheet_in d ps fs) (just_opened d) (pairs_came es) in
-                let out = made d ps fs p holds es in
-                let parts = print.part.parts in
-                let report = both-text d ps fs p holds es gs quiet view t made_walk is in
-                record {
-                  text = front_of (printed (es ++ gs)) print.part.rest (printout p).text
-                      (ap (λ o. o.text) out ∙ ap (λ v. refusal_lines v ++ report_of p v.found) (sym last) ∙ (λ i. told.lines i ++ (sym report ∙ parts) i)
-                      ∙ sym (append_assoc (printed es) (printed gs) print.part.rest) ∙ ap (λ l. l ++ print.part.rest) (sym (flat_map-append printed_by es gs)));
-                  stored = front_of (stored (es ++ gs)) [] (printout p).stored
-                      (ap (λ o. o.stored) out ∙ ap refused_pairs (sym last) ∙ told.pairs
-                      ∙ sym (append-nil (stored (es ++ gs)) ∙ flat_map-append stored_by es gs ∙ ap (λ l. stored es ++ l) (prints_store_nothing gs print.part.alone) ∙ append-nil (stored es)));
-                  pieces = told.files.pieces;
-                  files = front_of (files_read (es ++ gs) ++ unread print.call) [] (replicate told.files.pieces Pairs) (sym told.files.each ∙ sym files ∙ sym (append-nil (files_read (es ++ gs) ++ unread print.call)));
-                  told = λ f c. absurd (printing_reading f (sym print.part.failed ∙ c));
-                },
-          );
+          rest = total.rest;
+          parts = all ∙ total.parts;
+          pieces = told.pieces + 0;
+          later = [];
+          files = sym (append-nil (files_read (es ++ gs) ++ unread_by how) ∙ total.files);
+          ends = ends how total.untold print.1;
+          told = λ f is. absurd (never_reads gs how f print.0.files is);
         }
       where
-        printing_reading : (g : PlanFile) → Printing ≡ Reading g → ⊥
-        printing_reading g c = cc
+        none : All (λ f. same_file Pairs f ≡ false) (files_read gs)
+        none = none_of (λ f. same_file Pairs f ≡ false) (files_read gs) (unread_by how) print.0.files
+
+        came_whole : p.pairs ≡ came (same_file Pairs) es
+        came_whole = (subst (λ b. CameTo b es) last told.came) p.pairs (sym (came_quiet es gs none) ∙ fits ∙ ap (λ n. take n p.pairs) (asked_quiet es gs none))
+
+        whole_walk : over (pairs_came es) ≡ walk p
+        whole_walk = same_walk (pairs_came es) ∙ ap (λ bytes. walked delivered (sheet p) (just_opened (draft p)) (offers_in bytes)) (sym came_whole)
+
+        all : plan_told p ≡ told_of (over (pairs_came es)) ⊕ only_text report
+        all = whole ∙ sym (λ i. told_of (whole_walk i) ⊕ only_text ((same_report ∙ ap (λ w. report_of p w.found) whole_walk) i))
+
+        total : Tells (told.pieces + 0) nothing_told (told_of (over (pairs_came es)) ⊕ only_text report) (es ++ gs) how
+        total =
+            tells_then told.pieces 0 nothing_told (told_of (over (pairs_came es))) (told_of (over (pairs_came es)) ⊕ only_text report) es gs tt how told.tells
+            (tells_behind 0 (told_of (over (pairs_came es))) (only_text report) gs how print.0)
+
+        claim : Findings delivered t → ClaimOfPlan p
+        claim found none =
+            subst (λ (k : Draft × Sheet × List Accepted × Found). Claim delivered k.0 k.1 k.2 k.3.core k.3.vf k.3.ee)
+            (λ i. ((m.draft ∙ h.draft) i, same_sheet i, ap (λ w. w.accepted) whole_walk i, (m.found ∙ ap (λ w. w.found) whole_walk) i))
+            (found t.core.draft (sheet_in t.core.draft ps fs) (over (pairs_came es)).accepted m.run)
+
+        ends : (how : Result Ending (Call PlanFile)) → LeavesUntold how total.rest → IfOk how (λ end. (end ≡ Complete) × Findings delivered t) → IfOk how (Ends p total.rest [])
+        ends (Err call) untold found = tt
+        ends (Ok end) untold (complete, found) =
+            record { told = untold; read = refl; ending = complete ∙ ap (λ o. o.ending) (sym made); complete = (λ c. h.no_fault, λ none. complete); claim = claim found }
 
 -- ---- from its opening on
+only_pairs : (f : PlanFile) (n : ℕ) (files : List PlanFile) → same_file f Pairs ≡ false → files ≡ replicate n Pairs → All (λ g. same_file f g ≡ false) files
+only_pairs f n files other is = subst (All (λ g. same_file f g ≡ false)) (sym is) (All-replicate (λ g. same_file f g ≡ false) n Pairs other)
+
 module _ {S E : Type 0} (does : S → Event PlanFile → S → Type 0) (fails : S → Call PlanFile → E → S → Type 0) (d : Draft) (ps : List Point) (fs : List Face)
     (s t : State) (h m : S) (begun : Begins d s) (points : d.points ≤ length ps) (faces : d.faces ≤ length fs) where
-  start : Made delivered d ps fs (sheet_in d ps fs) (just_opened d) s
+  start : Made delivered d ps fs (just_opened d) s
   unfolding Begins
-  start = begun ps fs (rows_there d ps fs points faces)
+  start = begun ps fs (λ i. le-ltb (length ps) d.points points i || le-ltb (length fs) d.faces faces i)
 
-  pub ran_in_part : (e : E) (r : Result Ending E) → OffersFile {X = Unit {0}} does fails delivered ps fs s t h (Err e) m → r ≡ Err e → PairsRan does fails d ps fs h r m
-  ran_in_part e r offers is = subst (λ r. PairsRan does fails d ps fs h r m) (sym is) (stopped_offering does fails d ps fs s t start h m (Unit {0}) e offers)
+  pub ran_in_part : (e : E) (r : Result Ending E) → OffersFile {X = Unit {0}} does fails delivered ps fs true s t h (Err e) m → r ≡ Err e → Ran does fails (AfterStep d ps fs) h r m
+  unfolding OffersFile
+  ran_in_part e r offers is =
+      ran_short does fails (AfterStep d ps fs) (OfferedFile delivered d ps fs (just_opened d) true t) h m e r is
+      (λ es call (told, none). (
+        only_pairs SheetFile told.pieces (files_read es ++ unread call) refl told.tells.files,
+        only_pairs StepFile told.pieces (files_read es ++ unread call) refl told.tells.files,
+        λ p holds fits. stops_offering p d ps fs holds es call told fits,
+      ))
+      (offers d (just_opened d) start)
 
-  module _ (offers : OffersFile {X = Unit {0}} does fails delivered ps fs s t h (Ok tt) m) where
-    walk_made : (w : Walk) × Made delivered d ps fs (sheet_in d ps fs) w t
-    walk_made = made_walk does fails d ps fs s t start h m (Unit {0}) tt offers
-
+  module _ (offers : OffersFile {X = Unit {0}} does fails delivered ps fs true s t h (Ok tt) m) where
     pub reportable : Reportable (record { set = delivered; core = t.core; sheet = sheet_in t.core.draft ps fs; lacks_rows = lacks_rows t.core.draft ps fs }) t.vf.entries t.ee.entries
-    unfolding Reportable
-    reportable = (rows_stand d ps fs walk_made.0 t walk_made.1, (vf_listed d ps fs walk_made.0 t walk_made.1, ee_listed d ps fs walk_made.0 t walk_made.1))
+    unfolding Reportable OffersFile
+    reportable = let made = (offers d (just_opened d) start).good.1.1 in (made.rows, (made.vf.inside, made.ee.inside))
 
     pub ran : (r : Result Ending E) (k : S)
         → Prints does fails (report_text (record { set = delivered; core = t.core; sheet = sheet_in t.core.draft ps fs; lacks_rows = lacks_rows t.core.draft ps fs }) t.vf.entries t.ee.entries) m r k
-        → IfOk r (λ end. end ≡ Complete) → OnOk r (Findings delivered t) → PairsRan does fails d ps fs h r k
-    ran r k printed complete found =
-        let draft = same_draft d ps fs walk_made.0 t walk_made.1 in
-        reported does fails d ps fs s t start h m (Unit {0}) tt offers r (record { set = delivered; core = t.core; sheet = sheet_in t.core.draft ps fs; lacks_rows = lacks_rows t.core.draft ps fs }) k
-        (λ i. record { set = delivered; core = t.core; sheet = sheet_in (draft i) ps fs; lacks_rows = lacks_rows (draft i) ps fs }) printed complete found
+        → IfOk r (λ end. end ≡ Complete) → OnOk r (Findings delivered t) → Ran does fails (AfterStep d ps fs) h r k
+    unfolding OffersFile
+    ran r k print complete found =
+        let a = offers d (just_opened d) start in
+        let told = a.good.0 in
+        let w = walked delivered (sheet_in d ps fs) (just_opened d) (pairs_came a.events) in
+        let text = report_text (record { set = delivered; core = t.core; sheet = sheet_in t.core.draft ps fs; lacks_rows = lacks_rows t.core.draft ps fs }) t.vf.entries t.ee.entries in
+        ran_after does fails (AfterStep d ps fs) (TellsText text (λ end. (end ≡ Complete) × Findings delivered t)) h m k a.events a.went
+        (λ gs how report.
+        let total = tells_then told.pieces 0 nothing_told (told_of w) (told_of w ⊕ only_text text) a.events gs tt how told.tells (tells_behind 0 (told_of w) (only_text text) gs how report.0) in (
+          only_pairs SheetFile (told.pieces + 0) (files_read (a.events ++ gs) ++ unread_by how) refl total.files,
+          only_pairs StepFile (told.pieces + 0) (files_read (a.events ++ gs) ++ unread_by how) refl total.files,
+          λ p holds fits. comes_reported p d ps fs holds a.events told a.good.1.0 t a.good.1.1 gs how report fits,
+        ))
+        r (told_print does fails (λ end. (end ≡ Complete) × Findings delivered t) m k text r print (both r complete found))
+      where
+        both : (r : Result Ending E) → IfOk r (λ end. end ≡ Complete) → OnOk r (Findings delivered t) → IfOk r (λ end. (end ≡ Complete) × Findings delivered t)
+        both (Ok end) complete found = (complete, found)
+        both (Err e) complete found = tt

@@ -1,9 +1,11 @@
 -- What the files of a plan put into the tables.
-use Rattle.std.proofs.Common.{◌≡◌, ℕ, ◌+◌, ◌≤◌, true, false, if◌then◌else◌, List, [], ◌∷◌, ◌++◌, All, length, take, drop, Some, None, nat_lt, sym, ap, ◌∙◌, arith, append-nil}
+use Rattle.std.proofs.Common.{◌≡◌, ℕ, ◌+◌, ◌≤◌, true, false, if◌then◌else◌, List, [], ◌∷◌, ◌++◌, All, length, take, drop, Some, None, Result, nat_lt, sym, ap, ◌∙◌, arith, append-nil}
 use Rattle.std.proofs.Math.Seq.{take-append_seam, take-length}
 use Rattle.std.proofs.lemmas.Bool.{le-ltb}
+use Rattle.std.proofs.lemmas.List.Elements.{All-cons, All-nil, All-head, All-tail}
 use Rattle.std.proofs.lemmas.List.Sums.{sum_by-cons}
-use Rattle.hosts.specs.Events.{Event, Read, files_read, asked, came, asked_by}
+use Rattle.hosts.specs.Events.{Event, Read, Call, files_read, asked, came, asked_by}
+use Rattle.hosts.specs.Works.{unread_by}
 use Rattle.hosts.proofs.Histories.{not_asked, not_came}
 use Rattle.sheet.specs.Checks.{first_fit}
 use Rattle.sheet.specs.Lines.{numbered}
@@ -19,19 +21,24 @@ use Rattle.step.proofs.Fronts as record_front
 use Rattle.step.proofs.LayAnswers.{length_with_ends}
 use Rattle.inspection.specs.Sheets.{sheet_of}
 use Rattle.printout.specs.Outcomes.{same_file}
-use Rattle.printout.specs.Phases.{HoldsSheet, HoldsPlan}
+use Rattle.printout.specs.Phases.{FitsFile, NotRead, HoldsSheet, HoldsPlan}
 use Rattle.printout.specs.Plans.{Plan, sheet_fault, step_fault, or_else, draft, resting_points}
+use Rattle.printout.specs.declared.endings.Ending.{Ending}
 use Rattle.printout.specs.declared.plan_files.PlanFile.{PlanFile}
 
+front_all : {X : Type 0} (P : X → Type 0) (xs ys : List X) → All P (xs ++ ys) → All P xs
+front_all P [] ys all = All-nil P
+front_all P (x ∷ xs) ys all = All-cons P x xs (All-head P x (xs ++ ys) all) (front_all P xs ys (All-tail P x (xs ++ ys) all))
+
 -- a file that is read once has given its first bytes
-pub first_bytes : (f : PlanFile) (size : ℕ) (bytes file : List ℕ) (es : List (Event PlanFile)) → same_file f f ≡ true → All (λ g. same_file f g ≡ false) (files_read es)
-    → came (same_file f) (Read f size bytes ∷ es) ≡ take (asked (same_file f) (Read f size bytes ∷ es)) file → bytes ≡ take size file
-first_bytes f size bytes file es itself none fits =
+pub first_bytes : (f : PlanFile) (size : ℕ) (bytes file : List ℕ) (es : List (Event PlanFile)) (how : Result Ending (Call PlanFile)) → same_file f f ≡ true → NotRead f es how
+    → FitsFile f file (Read f size bytes ∷ es) → bytes ≡ take size file
+first_bytes f size bytes file es how itself later fits =
+    let none = front_all (λ g. same_file f g ≡ false) (files_read es) (unread_by how) later in
     let all_came : came (same_file f) (Read f size bytes ∷ es) ≡ bytes =
     (λ i. (if itself i then bytes else []) ++ not_came (same_file f) es none i) ∙ append-nil bytes in
-    let zero = not_asked (same_file f) es none in
     let all_asked : asked (same_file f) (Read f size bytes ∷ es) ≡ size =
-    sum_by-cons (asked_by (same_file f)) (Read f size bytes) es ∙ ap (λ b. (if b then size else 0) + asked (same_file f) es) itself ∙ omega (arith, zero) in
+    sum_by-cons (asked_by (same_file f)) (Read f size bytes) es ∙ ap (λ b. (if b then size else 0) + asked (same_file f) es) itself ∙ omega (arith, not_asked (same_file f) es none) in
     sym all_came ∙ fits ∙ ap (λ n. take n file) all_asked
 
 front : {X : Type 0} (rows table : List X) (n : ℕ) → n ≡ length rows → take n (onto_front rows table) ≡ rows

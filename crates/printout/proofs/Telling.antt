@@ -1,157 +1,170 @@
--- What is told of a walk, pair by pair.
-use Rattle.std.proofs.Common.{◌≡◌, Bool, List, [], ◌∷◌, ◌++◌, Some, None, Option, Ok, Err, Result, MatchResult, refl, sym, ap, ◌∙◌, subst, append_assoc, append-nil}
+-- What is told, piece by piece.
+use Rattle.std.proofs.Common.{◌≡◌, ℕ, ◌+◌, List, [], ◌∷◌, ◌++◌, replicate, Ok, Err, Result, IfOk, MatchResult, refl, sym, ap, ◌∙◌, subst, append_assoc, append-nil}
+use Rattle.std.proofs.lemmas.List.{replicate-append-replicate}
 use Rattle.std.proofs.lemmas.List.Concat.{flat_map-append}
-use Rattle.hosts.specs.Events.{Event, Stored, Call, Storing, printed, stored, files_read, unread, printed_by, stored_by, file_read_by}
-use Rattle.hosts.specs.Traces.{next, CutOff}
-use Rattle.hosts.specs.Works.{Stopped, IsFront, IsPrintedInPart, Prints}
-use Rattle.hosts.proofs.Fronts.{whole, front_of, front_of_front, front_behind}
+use Rattle.hosts.specs.Events.{Event, Stored, Call, Reading, Printing, Storing, files_read, unread, printed_by, stored_by, file_read_by}
+use Rattle.hosts.specs.Traces.{nothing, next, CutOff}
+use Rattle.hosts.specs.Works.{Ran, unread_by, Stopped, IsPrintedInPart, Prints}
 use Rattle.hosts.proofs.Histories.{prints_store_nothing, prints_read_nothing}
+use Rattle.hosts.proofs.Ran.{ran_after, ran_short}
 use Rattle.sheet.specs.declared.notices.Notice.{Notice}
-use Rattle.motion.specs.declared.shapes.Shape.{Shape}
 use Rattle.inspection.specs.declared.offerings.Offering.{Offering}
-use Rattle.inspection.specs.Sheets.{Sheet}
 use Rattle.printout.specs.Printouts.{notice_line}
-use Rattle.printout.specs.Progress.{Tells, TellsInPart, Says, SaysInPart, Refuses}
-use Rattle.printout.specs.Walks.{Walk, pair_bytes, refusal, sorted_in, offered, walked, refusal_lines, refused_pairs}
+use Rattle.printout.specs.Progress.{Told, only_text, nothing_told, ◌⊕◌, told_by, refusal_told, LeavesUntold, Tells, TellsText, Refuses}
+use Rattle.printout.specs.Walks.{pair_bytes}
 use Rattle.printout.specs.declared.plan_files.PlanFile.{PlanFile}
+use Rattle.printout.specs.declared.plan_files.PlanFile.TheVariants.{Pairs}
 
--- ---- a line that is printed, and then a pair that is stored
-module _ {S E : Type 0} (does : S → Event PlanFile → S → Type 0) (fails : S → Call PlanFile → E → S → Type 0) (n : Notice) (o : Offering) where
-  pub says_no_more : (Y : Type 0) (s t : S) (e : E) (r : Result Y E) → Stopped does fails (IsPrintedInPart (notice_line n)) s e t → r ≡ Err e
-      → Refuses does fails n o s r t
-  unfolding Refuses
-  says_no_more Y s t e r p is =
-      subst (λ r. Refuses does fails n o s r t) (sym is)
-      (record {
+pub told_assoc : (a b c : Told) → a ⊕ b ⊕ c ≡ a ⊕ (b ⊕ c)
+told_assoc a b c = λ i. record { text = append_assoc a.text b.text c.text i; stored = append_assoc a.stored b.stored c.stored i }
+
+pub told_nothing : (a : Told) → a ⊕ nothing_told ≡ a
+told_nothing a = λ i. record { text = append-nil a.text i; stored = append-nil a.stored i }
+
+some_read : (files : List PlanFile) (f : PlanFile) → files ++ (f ∷ []) ≡ [] → ⊥
+some_read [] f none = cc
+some_read (g ∷ files) f none = cc
+
+-- what does not read is not stopped by reading
+pub never_reads : {X : Type 0} (es : List (Event PlanFile)) (how : Result X (Call PlanFile)) (f : PlanFile) → files_read es ++ unread_by how ≡ [] → unread_by how ≡ f ∷ [] → ⊥
+never_reads es how f none is = some_read (files_read es) f (ap (λ l. files_read es ++ l) (sym is) ∙ none)
+
+-- where reading fails, all is told
+pub unread_untold : (X : Type 0) (call : Call PlanFile) (rest : Told) (f : PlanFile) → LeavesUntold {X = X} (Err call) rest → unread call ≡ f ∷ [] → rest ≡ nothing_told
+unread_untold X (Reading g) rest f untold is = untold
+unread_untold X Printing rest f untold is = cc
+unread_untold X Storing rest f untold is = cc
+
+told_append : (es fs : List (Event PlanFile)) → told_by (es ++ fs) ≡ told_by es ⊕ told_by fs
+told_append es fs = λ i. record { text = flat_map-append printed_by es fs i; stored = flat_map-append stored_by es fs i }
+
+-- ---- one after the other
+module _ {X : Type 0} where
+  -- what tells nothing
+  pub quiet : (pieces : ℕ) (a : Told) (es : List (Event PlanFile)) (how : Result X (Call PlanFile)) → told_by es ≡ nothing_told → LeavesUntold how nothing_told
+      → files_read es ++ unread_by how ≡ replicate pieces Pairs → Tells pieces a a es how
+  quiet pieces a es how none untold files =
+      record {
+        rest = nothing_told;
+        parts = sym (told_nothing (a ⊕ told_by es) ∙ ap (λ b. a ⊕ b) none ∙ told_nothing a);
+        untold = untold;
+        files = files;
+      }
+
+  -- all that is told at an end
+  pub told_all : (pieces : ℕ) (a b : Told) (es : List (Event PlanFile)) (x : X) → Tells pieces a b es (Ok x) → b ≡ a ⊕ told_by es
+  told_all pieces a b es x t = t.parts ∙ ap (λ r. a ⊕ told_by es ⊕ r) t.untold ∙ told_nothing (a ⊕ told_by es)
+
+  pub tells_then : {Y : Type 0} (m n : ℕ) (a b c : Told) (es fs : List (Event PlanFile)) (x : X) (how : Result Y (Call PlanFile))
+      → Tells m a b es (Ok x) → Tells n b c fs how → Tells (m + n) a c (es ++ fs) how
+  tells_then m n a b c es fs x how first second =
+      record {
+        rest = second.rest;
+        parts =
+            second.parts ∙ ap (λ l. l ⊕ told_by fs ⊕ second.rest) (told_all m a b es x first)
+            ∙ ap (λ l. l ⊕ second.rest) (told_assoc a (told_by es) (told_by fs) ∙ ap (λ l. a ⊕ l) (sym (told_append es fs)));
+        untold = second.untold;
+        files =
+            ap (λ l. l ++ unread_by how) (flat_map-append file_read_by es fs) ∙ append_assoc (files_read es) (files_read fs) (unread_by how)
+            ∙ (λ i. (sym (append-nil (files_read es)) ∙ first.files) i ++ second.files i) ∙ replicate-append-replicate m n Pairs;
+      }
+
+  -- behind what was told before
+  pub tells_behind : (pieces : ℕ) (a b : Told) (es : List (Event PlanFile)) (how : Result X (Call PlanFile)) → Tells pieces nothing_told b es how → Tells pieces a (a ⊕ b) es how
+  tells_behind pieces a b es how t =
+      record { rest = t.rest; parts = ap (λ l. a ⊕ l) t.parts ∙ sym (told_assoc a (told_by es) t.rest); untold = t.untold; files = t.files }
+
+  -- a call fails, and more was to be told
+  pub tells_short : {Y : Type 0} (a b more c : Told) (es : List (Event PlanFile)) (call : Call PlanFile) → c ≡ b ⊕ more → Tells {X = X} 0 a b es (Err call) → Tells {X = Y} 0 a c es (Err call)
+  tells_short {Y} a b more c es call is t =
+      record { rest = t.rest ⊕ more; parts = is ∙ ap (λ l. l ⊕ more) t.parts ∙ told_assoc (a ⊕ told_by es) t.rest more; untold = untold call t.files; files = t.files }
+    where
+      untold : (call : Call PlanFile) → files_read es ++ unread call ≡ [] → LeavesUntold {X = Y} (Err call) (t.rest ⊕ more)
+      untold Printing none = tt
+      untold Storing none = tt
+      untold (Reading f) none = absurd (some_read (files_read es) f none)
+
+-- ---- in the words of the calls
+module _ {S E : Type 0} (does : S → Event PlanFile → S → Type 0) (fails : S → Call PlanFile → E → S → Type 0) where
+  pub told_print : {X : Type 0} (Q : X → Type 0) (s t : S) (text : List ℕ) (r : Result X E) → Prints does fails text s r t → IfOk r Q
+      → Ran does fails (TellsText text Q) s r t
+  told_print {X} Q s t text (Ok x) p q =
+      record {
+        events = p.events;
+        went = p.went;
+        good = (
+          record {
+            rest = nothing_told;
+            parts = λ i. record { text = sym (append-nil _ ∙ p.good.whole) i; stored = sym (append-nil _ ∙ prints_store_nothing p.events p.good.alone) i };
+            untold = refl;
+            files = append-nil (files_read p.events) ∙ prints_read_nothing p.events p.good.alone;
+          },
+          q,
+        );
+      }
+  told_print {X} Q s t text (Err e) p q =
+      record {
         events = p.events;
         call = p.call;
         before = p.before;
         went = p.went;
         failed = p.failed;
-        part = record {
-          printed = front_of (printed p.events) p.part.rest (notice_line n) p.part.parts;
-          stored = front_of (stored p.events) (pair_bytes o) (pair_bytes o) (ap (λ l. l ++ (pair_bytes o)) (sym (prints_store_nothing p.events p.part.alone)));
-          files = (λ i. prints_read_nothing p.events p.part.alone i ++ unread (p.part.failed i));
-        };
-      })
+        part = (
+          record {
+            rest = only_text p.part.rest;
+            parts = λ i. record { text = p.part.parts i; stored = sym (append-nil _ ∙ prints_store_nothing p.events p.part.alone) i };
+            untold = subst (λ c. LeavesUntold {X = X} (Err c) (only_text p.part.rest)) (sym p.part.failed) tt;
+            files = λ i. prints_read_nothing p.events p.part.alone i ++ unread (p.part.failed i);
+          },
+          tt,
+        );
+      }
 
-  pub says : (X Y : Type 0) (s t u : S) (x : X) (r : Result Y E) → Prints does fails (notice_line n) s (Ok x) t
-      → MatchResult r (λ y. does t (Stored (pair_bytes o)) u) (λ e. CutOff does fails t Stored Storing (pair_bytes o) e u)
-      → Refuses does fails n o s r u
-  unfolding Refuses
-  says X Y s t u x (Ok y) p d =
-      let before = p.events in
-      let e = Stored (pair_bytes o) in
+  told_store : {X : Type 0} (s t : S) (line bytes : List ℕ) (r : Result X E)
+      → MatchResult r (λ x. does s (Stored bytes) t) (λ e. CutOff does fails s Stored Storing bytes e t)
+      → Ran does fails (Tells 0 (only_text line) (record { text = line; stored = bytes })) s r t
+  told_store s t line bytes (Ok x) d =
       record {
-        events = before ++ (e ∷ []);
-        went = next e p.went d;
+        events = Stored bytes ∷ [];
+        went = next (Stored bytes) nothing d;
         good = record {
-          printed = flat_map-append printed_by before (e ∷ []) ∙ append-nil (printed before) ∙ p.good.whole;
-          stored = flat_map-append stored_by before (e ∷ []) ∙ (λ i. prints_store_nothing before p.good.alone i ++ append-nil (pair_bytes o) i);
-          files = flat_map-append file_read_by before (e ∷ []) ∙ append-nil (files_read before) ∙ prints_read_nothing before p.good.alone;
+          rest = nothing_told;
+          parts = λ i. record { text = sym (append-nil (line ++ []) ∙ append-nil line) i; stored = sym (append-nil (bytes ++ []) ∙ append-nil bytes) i };
+          untold = refl;
+          files = refl;
         };
       }
-  says X Y s t u x (Err e) p c =
-      let before = p.events in
-      let v = Stored c.front in
+  told_store s t line bytes (Err e) c =
       record {
-        events = before ++ (v ∷ []);
+        events = Stored c.front ∷ [];
         call = Storing;
         before = c.before;
-        went = next v p.went c.did;
+        went = next (Stored c.front) nothing c.did;
         failed = c.failed;
         part = record {
-          printed = front_of (printed (before ++ (v ∷ []))) [] (notice_line n)
-              (sym (append-nil (printed (before ++ (v ∷ []))) ∙ flat_map-append printed_by before (v ∷ []) ∙ append-nil (printed before) ∙ p.good.whole));
-          stored = front_of (stored (before ++ (v ∷ []))) c.rest (pair_bytes o)
-              (c.parts ∙ ap (λ l. l ++ c.rest) (sym (flat_map-append stored_by before (v ∷ []) ∙ (λ i. prints_store_nothing before p.good.alone i ++ append-nil c.front i))));
-          files = append-nil (files_read (before ++ (v ∷ []))) ∙ flat_map-append file_read_by before (v ∷ []) ∙ append-nil (files_read before) ∙ prints_read_nothing before p.good.alone;
+          rest = record { text = []; stored = c.rest };
+          parts = λ i. record { text = sym (append-nil (line ++ []) ∙ append-nil line) i; stored = (c.parts ∙ ap (λ l. l ++ c.rest) (sym (append-nil c.front))) i };
+          untold = tt;
+          files = refl;
         };
       }
 
--- ---- of walks
-module _ (set : Shape → Bool) (sheet : Sheet) where
-  -- what is told of a walk is a front of what is told of it when it has gone on
-  one_more : (w : Walk) (o : Offering) (n : Option Notice)
-      → IsFront (refusal_lines w) (refusal_lines (sorted_in set sheet w o n)) × IsFront (refused_pairs w) (refused_pairs (sorted_in set sheet w o n))
-  one_more w o None = (whole (refusal_lines w), whole (refused_pairs w))
-  one_more w o (Some n) = (
-    front_of (refusal_lines w) (notice_line n ++ []) (refusal_lines (sorted_in set sheet w o (Some n))) (flat_map-append (λ r. notice_line r.why) w.refused (record { pair = o; why = n } ∷ [])),
-    front_of (refused_pairs w) (pair_bytes o ++ []) (refused_pairs (sorted_in set sheet w o (Some n))) (flat_map-append (λ r. pair_bytes r.pair) w.refused (record { pair = o; why = n } ∷ [])),
-  )
+  -- a line that is printed, and then a pair that is stored
+  module _ (n : Notice) (o : Offering) where
+    pub says_no_more : (Y : Type 0) (s t : S) (e : E) (r : Result Y E) → Stopped does fails (IsPrintedInPart (notice_line n)) s e t → r ≡ Err e → Refuses does fails n o s r t
+    unfolding Refuses
+    says_no_more Y s t e r p is =
+        ran_short does fails (Tells 0 nothing_told (refusal_told n o)) (TellsText (notice_line n) (λ x. Unit {0})) s t e r is
+        (λ es call told. tells_short nothing_told (only_text (notice_line n)) (record { text = []; stored = pair_bytes o }) (refusal_told n o) es call
+        (λ i. record { text = sym (append-nil (notice_line n)) i; stored = pair_bytes o }) told.0)
+        (told_print {X = Y} (λ x. Unit {0}) s t (notice_line n) (Err e) p tt)
 
-  pub goes_on : (w : Walk) (os : List Offering)
-      → IsFront (refusal_lines w) (refusal_lines (walked set sheet w os)) × IsFront (refused_pairs w) (refused_pairs (walked set sheet w os))
-  goes_on w [] = (whole (refusal_lines w), whole (refused_pairs w))
-  goes_on w (o ∷ os) =
-      let v = offered set sheet w o in
-      let end = walked set sheet v os in
-      let one = one_more w o (refusal set sheet o w.found) in
-      let rest = goes_on v os in
-      (front_of_front (refusal_lines w) (refusal_lines v) (refusal_lines end) one.0 rest.0, front_of_front (refused_pairs w) (refused_pairs v) (refused_pairs end) one.1 rest.1)
-
-  -- a pair that is accepted leaves nothing to tell
-  pub tells_none : (w : Walk) (o : Offering) → refusal set sheet o w.found ≡ None → Tells w (offered set sheet w o) []
-  tells_none w o none =
-      subst (λ n. Tells w (sorted_in set sheet w o n) []) (sym none)
-      (record { lines = sym (append-nil (refusal_lines w)); pairs = sym (append-nil (refused_pairs w)); files = refl })
-
-  -- of one that is refused its line and its bytes are told
-  module _ (w : Walk) (o : Offering) (n : Notice) (is : refusal set sheet o w.found ≡ Some n) where
-    lines : refusal_lines (offered set sheet w o) ≡ refusal_lines w ++ notice_line n
-    lines =
-        ap (λ k. refusal_lines (sorted_in set sheet w o k)) is ∙ flat_map-append (λ r. notice_line r.why) w.refused (record { pair = o; why = n } ∷ [])
-        ∙ ap (λ l. refusal_lines w ++ l) (append-nil (notice_line n))
-
-    pairs : refused_pairs (offered set sheet w o) ≡ refused_pairs w ++ pair_bytes o
-    pairs =
-        ap (λ k. refused_pairs (sorted_in set sheet w o k)) is ∙ flat_map-append (λ r. pair_bytes r.pair) w.refused (record { pair = o; why = n } ∷ [])
-        ∙ ap (λ l. refused_pairs w ++ l) (append-nil (pair_bytes o))
-
-    pub tells_one : (es : List (Event PlanFile)) → Says (notice_line n) (pair_bytes o) es → Tells w (offered set sheet w o) es
-    tells_one es s =
-        record {
-          lines = lines ∙ ap (λ l. refusal_lines w ++ l) (sym s.printed);
-          pairs = pairs ∙ ap (λ l. refused_pairs w ++ l) (sym s.stored);
-          files = s.files;
-        }
-
-    pub tells_part_of_one : (es : List (Event PlanFile)) (c : Call PlanFile) → SaysInPart (notice_line n) (pair_bytes o) es c → TellsInPart w (offered set sheet w o) es c
-    tells_part_of_one es c s =
-        record {
-          lines = subst (λ l. IsFront (refusal_lines w ++ printed es) l) (sym lines) (front_behind (refusal_lines w) (printed es) (notice_line n) s.printed);
-          pairs = subst (λ l. IsFront (refused_pairs w ++ stored es) l) (sym pairs) (front_behind (refused_pairs w) (stored es) (pair_bytes o) s.stored);
-          files = s.files;
-        }
-
--- ---- one after the other
-pub tells_then : (v w x : Walk) (es fs : List (Event PlanFile)) → Tells v w es → Tells w x fs → Tells v x (es ++ fs)
-tells_then v w x es fs a b =
-    record {
-      lines =
-          b.lines ∙ ap (λ l. l ++ printed fs) a.lines ∙ append_assoc (refusal_lines v) (printed es) (printed fs)
-          ∙ ap (λ l. refusal_lines v ++ l) (sym (flat_map-append printed_by es fs));
-      pairs =
-          b.pairs ∙ ap (λ l. l ++ stored fs) a.pairs ∙ append_assoc (refused_pairs v) (stored es) (stored fs)
-          ∙ ap (λ l. refused_pairs v ++ l) (sym (flat_map-append stored_by es fs));
-      files = flat_map-append file_read_by es fs ∙ (λ i. a.files i ++ b.files i);
-    }
-
-pub tells_then_part : (v w x : Walk) (es fs : List (Event PlanFile)) (c : Call PlanFile) → Tells v w es → TellsInPart w x fs c → TellsInPart v x (es ++ fs) c
-tells_then_part v w x es fs c a b =
-    let line = ap (λ l. l ++ printed fs) a.lines ∙ append_assoc (refusal_lines v) (printed es) (printed fs) ∙ ap (λ l. refusal_lines v ++ l) (sym (flat_map-append printed_by es fs)) in
-    let pair = ap (λ l. l ++ stored fs) a.pairs ∙ append_assoc (refused_pairs v) (stored es) (stored fs) ∙ ap (λ l. refused_pairs v ++ l) (sym (flat_map-append stored_by es fs)) in
-    record {
-      lines = subst (λ l. IsFront l (refusal_lines x)) line b.lines;
-      pairs = subst (λ l. IsFront l (refused_pairs x)) pair b.pairs;
-      files = ap (λ l. l ++ unread c) (flat_map-append file_read_by es fs) ∙ append_assoc (files_read es) (files_read fs) (unread c) ∙ (λ i. a.files i ++ b.files i);
-    }
-
-pub part_goes_on : (v w x : Walk) (es : List (Event PlanFile)) (c : Call PlanFile) → TellsInPart v w es c
-    → IsFront (refusal_lines w) (refusal_lines x) × IsFront (refused_pairs w) (refused_pairs x) → TellsInPart v x es c
-part_goes_on v w x es c a more =
-    record {
-      lines = front_of_front (refusal_lines v ++ printed es) (refusal_lines w) (refusal_lines x) a.lines more.0;
-      pairs = front_of_front (refused_pairs v ++ stored es) (refused_pairs w) (refused_pairs x) a.pairs more.1;
-      files = a.files;
-    }
+    pub says : (X Y : Type 0) (s t u : S) (x : X) (r : Result Y E) → Prints does fails (notice_line n) s (Ok x) t
+        → MatchResult r (λ y. does t (Stored (pair_bytes o)) u) (λ e. CutOff does fails t Stored Storing (pair_bytes o) e u)
+        → Refuses does fails n o s r u
+    unfolding Refuses
+    says X Y s t u x r p d =
+        let line = told_print (λ x. Unit {0}) s t (notice_line n) (Ok x) p tt in
+        ran_after does fails (Tells 0 nothing_told (refusal_told n o)) (Tells 0 (only_text (notice_line n)) (refusal_told n o)) s t u line.events line.went
+        (λ es how told. tells_then 0 0 nothing_told (only_text (notice_line n)) (refusal_told n o) line.events es x how line.good.0 told)
+        r (told_store t u (notice_line n) (pair_bytes o) r d)

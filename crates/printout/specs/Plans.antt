@@ -10,9 +10,7 @@ use Rattle.sheet.specs.declared.rows.Face.{Face}
 use Rattle.step.specs.Laying.{lay_checks, with_ends}
 use Rattle.motion.specs.Rows.{delivered}
 use Rattle.inspection.specs.Claims.{Claim}
-use Rattle.inspection.specs.Lists.{Contents}
 use Rattle.inspection.specs.Sheets.{Sheet, sheet_of}
-use Rattle.inspection.specs.States.{State}
 use Rattle.inspection.specs.PairBytes.{offers_in}
 use Rattle.report.specs.Reports.{View, report_text}
 use Rattle.printout.specs.Printouts.{Printout, notice_line}
@@ -62,10 +60,6 @@ or_else None later = later
 abbrev pub fault : Plan → Option Notice
 fault p = or_else (sheet_fault p) (step_fault p)
 
--- a list by its names alone
-abbrev pub names_alone : {E : Type 0} → List E → Contents E
-names_alone es = record { entries = es; rest = []; lender = 0 }
-
 -- ---- what is printed and stored
 -- all of its pairs, offered one after another
 abbrev pub walk : Plan → Walk
@@ -101,10 +95,8 @@ needed p n =
     ∷ files_after (sheet_fault p) (StepFile ∷ files_after (step_fault p) (replicate n PairsFile))
 
 -- ---- what nobody can say of the pairs that are not refused: that a touch is missed
-abbrev pub state_found : Found → State
-state_found f = record { core = f.core; vf = names_alone f.vf; ee = names_alone f.ee }
-
 abbrev pub ClaimOfPlan : Plan → Type 0
 ClaimOfPlan p =
     let w = walk p in
-    fault p ≡ None → Claim delivered (draft p) (sheet p) w.accepted (state_found w.found)
+    fault p ≡ None
+    → Claim delivered (draft p) (sheet p) w.accepted w.found.core w.found.vf w.found.ee

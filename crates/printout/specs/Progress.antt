@@ -1,130 +1,162 @@
--- How far a run has come: what of a walk over pairs is told, and the inspection that has made it.
-use Rattle.std.specs.Prelude.{◌≡◌, ℕ, ◌+◌, Bool, IsTrue, IsFalse, All, List, [], ◌++◌, length, take, replicate, Result}
-use Rattle.hosts.specs.Events.{Event, Call, Reading, printed, stored, files_read, unread, asked, came}
-use Rattle.hosts.specs.Works.{Worked, IsFront}
+-- How far a run has come: what is told of a walk over pairs, and the inspection that has made it.
+use Rattle.std.specs.Prelude.{◌≡◌, ℕ, ◌+◌, ◌%◌, ◌≤◌, nat_lt, Bool, true, false, IsTrue, IsFalse, IfOk, All, List, [], ◌++◌, length, take, replicate, Ok, Err, Result}
+use Rattle.hosts.specs.Events.{Event, Read, Call, Reading, Printing, Storing, printed, stored, files_read, asked, came}
+use Rattle.hosts.specs.Works.{Ran, unread_by}
 use Rattle.sheet.specs.declared.drafts.Draft.{Draft}
 use Rattle.sheet.specs.declared.notices.Notice.{Notice}
 use Rattle.sheet.specs.declared.rows.Point.{Point}
 use Rattle.sheet.specs.declared.rows.Face.{Face}
 use Rattle.motion.specs.declared.shapes.Shape.{Shape}
 use Rattle.motion.specs.Rows.{delivered}
+use Rattle.inspection.specs.Lists.{Contents}
 use Rattle.inspection.specs.Offers.{lacks_rows}
 use Rattle.inspection.specs.declared.offerings.Offering.{Offering}
 use Rattle.inspection.specs.Runs.{Run}
 use Rattle.inspection.specs.Sheets.{Sheet, sheet_in}
 use Rattle.inspection.specs.States.{State}
-use Rattle.inspection.specs.Tests.{vf_inside, ee_inside, vf_naming, ee_naming}
+use Rattle.inspection.specs.Tests.{Naming, vf_naming, ee_naming}
 use Rattle.inspection.specs.PairBytes.{offers_in}
 use Rattle.inspection.specs.declared.names.VfName.{VfName}
 use Rattle.inspection.specs.declared.names.EeName.{EeName}
 use Rattle.report.specs.Reports.{View, AllInside}
 use Rattle.printout.specs.Outcomes.{same_file}
 use Rattle.printout.specs.Printouts.{notice_line}
-use Rattle.printout.specs.Walks.{Walk, places, pair_bytes, just_opened, walked, refusal_lines, refused_pairs}
+use Rattle.printout.specs.Walks.{Walk, Found, places, pair_bytes, just_opened, walked, refusal_lines, refused_pairs}
 use Rattle.printout.specs.declared.plan_files.PlanFile.{PlanFile}
 use Rattle.printout.specs.declared.plan_files.PlanFile.TheVariants.{Pairs}
 
--- an inspection in the state s has made the walk, over tables that hold the sheet
+-- ---- an inspection
+-- a list has its places, and what is listed has numbers of the sheet
+pub record Lists {E : Type 0} (n : Naming E) (sheet : Sheet) (list : Contents E) : Type 0 where
+  pub room : length list.entries + length list.rest ≡ places
+  pub inside : All (λ e. IsTrue (n.inside sheet e)) list.entries
+
+abbrev pub found_in : State → Found
+found_in s = record { core = s.core; vf = s.vf.entries; ee = s.ee.entries }
+
+-- an inspection in the state s has made the walk, over tables that hold the draft's sheet
 pub record Made
-    (set : Shape → Bool) (d : Draft) (ps : List Point) (fs : List Face) (sheet : Sheet)
-    (w : Walk) (s : State) : Type 0 where
-  pub rows : IsFalse (lacks_rows d ps fs)
-  pub tables : sheet_in d ps fs ≡ sheet
-  pub draft : w.found.core.draft ≡ d
-  pub core : s.core ≡ w.found.core
-  pub vf : s.vf.entries ≡ w.found.vf
-  pub ee : s.ee.entries ≡ w.found.ee
-  pub vf_places : length s.vf.entries + length s.vf.rest ≡ places
-  pub ee_places : length s.ee.entries + length s.ee.rest ≡ places
-  pub run : Run set d sheet w.accepted s
-  -- what is listed has numbers of the sheet
-  pub vf_inside : All (λ e. IsTrue (vf_inside sheet e)) w.found.vf
-  pub ee_inside : All (λ e. IsTrue (ee_inside sheet e)) w.found.ee
+    (set : Shape → Bool) (d : Draft) (ps : List Point) (fs : List Face) (w : Walk) (s : State)
+    : Type 0 where
+  pub draft : s.core.draft ≡ d
+  pub found : found_in s ≡ w.found
+  pub rows : IsFalse (lacks_rows s.core.draft ps fs)
+  pub vf : Lists vf_naming (sheet_in s.core.draft ps fs) s.vf
+  pub ee : Lists ee_naming (sheet_in s.core.draft ps fs) s.ee
+  pub run : Run set s.core.draft (sheet_in s.core.draft ps fs) w.accepted s
 
 -- an inspection in the state s is just opened: over any tables of the draft's rows
 unfoldable pub Begins : Draft → State → Type 0
 Begins d s =
     (ps : List Point) (fs : List Face) → IsFalse (lacks_rows d ps fs)
-    → Made delivered d ps fs (sheet_in d ps fs) (just_opened d) s
+    → Made delivered d ps fs (just_opened d) s
 
 -- no check of a report fits: its tables are there, and what is listed is of the sheet
 unfoldable pub Reportable : View → List VfName → List EeName → Type 0
 Reportable v vf ee = IsFalse v.lacks_rows × (AllInside vf_naming v vf × AllInside ee_naming v ee)
 
--- ---- what comes to the walk from w to v is told, or a front of it; no file is read
-pub record Tells (w v : Walk) (es : List (Event PlanFile)) : Type 0 where
-  pub lines : refusal_lines v ≡ refusal_lines w ++ printed es
-  pub pairs : refused_pairs v ≡ refused_pairs w ++ stored es
-  pub files : files_read es ≡ []
+-- ---- what is told: all that is printed, and all that is stored
+pub record Told : Type 0 where
+  pub text : List ℕ
+  pub stored : List ℕ
 
-pub record TellsInPart (w v : Walk) (es : List (Event PlanFile)) (call : Call PlanFile) : Type 0 where
-  pub lines : IsFront (refusal_lines w ++ printed es) (refusal_lines v)
-  pub pairs : IsFront (refused_pairs w ++ stored es) (refused_pairs v)
-  pub files : files_read es ++ unread call ≡ []
+abbrev pub only_text : List ℕ → Told
+only_text text = record { text = text; stored = [] }
 
--- ---- a text is printed and bytes are stored, or fronts of them; no file is read
-pub record Says (text bytes : List ℕ) (es : List (Event PlanFile)) : Type 0 where
-  pub printed : printed es ≡ text
-  pub stored : stored es ≡ bytes
-  pub files : files_read es ≡ []
+abbrev pub nothing_told : Told
+nothing_told = only_text []
 
-pub record SaysInPart (text bytes : List ℕ) (es : List (Event PlanFile)) (call : Call PlanFile) : Type 0 where
-  pub printed : IsFront (printed es) text
-  pub stored : IsFront (stored es) bytes
-  pub files : files_read es ++ unread call ≡ []
+-- the one and then the other
+infixl 10 ◌⊕◌
+abbrev pub ◌⊕◌ : Told → Told → Told
+a ⊕ b = record { text = a.text ++ b.text; stored = a.stored ++ b.stored }
 
--- why a pair is refused is printed, and the pair stored
-unfoldable pub Refuses : {S E X : Type 0} → (S → Event PlanFile → S → Type 0) → (S → Call PlanFile → E → S → Type 0)
-    → Notice → Offering → S → Result X E → S → Type 0
-Refuses does fails n o s r t =
-    let line = notice_line n in
-    let pair = pair_bytes o in
-    Worked does fails (λ es x. Says line pair es) (SaysInPart line pair) s r t
+abbrev pub told_by : List (Event PlanFile) → Told
+told_by es = record { text = printed es; stored = stored es }
 
--- pairs are offered, from the state s to t: whatever walk s has made, t has made it further
+-- of a walk, and of a pair that is refused
+abbrev pub told_of : Walk → Told
+told_of w = record { text = refusal_lines w; stored = refused_pairs w }
+
+abbrev pub refusal_told : Notice → Offering → Told
+refusal_told n o = record { text = notice_line n; stored = pair_bytes o }
+
+-- only a call that writes leaves a rest untold, where it fails
+abbrev pub LeavesUntold : {X : Type 0} → Result X (Call PlanFile) → Told → Type 0
+LeavesUntold (Ok x) rest = rest ≡ nothing_told
+LeavesUntold (Err (Reading f)) rest = rest ≡ nothing_told
+LeavesUntold (Err Printing) rest = Unit {0}
+LeavesUntold (Err Storing) rest = Unit {0}
+
+-- behind what was told before, the events tell all, or a front of it
+-- the file of pairs is read in so many pieces, and no other file
+pub record Tells {X : Type 0} (pieces : ℕ) (before all : Told) (es : List (Event PlanFile)) (how : Result X (Call PlanFile)) : Type 0 where
+  pub rest : Told
+  pub parts : all ≡ before ⊕ told_by es ⊕ rest
+  pub untold : LeavesUntold how rest
+  pub files : files_read es ++ unread_by how ≡ replicate pieces Pairs
+
+-- a text is told and nothing else, and of the answer Q holds
+abbrev pub TellsText : {X : Type 0} → List ℕ → (X → Type 0) → List (Event PlanFile)
+    → Result X (Call PlanFile) → Type 0
+TellsText text Q es how = Tells 0 nothing_told (only_text text) es how × IfOk how Q
+
 module _ {S E X : Type 0} (does : S → Event PlanFile → S → Type 0) (fails : S → Call PlanFile → E → S → Type 0) where
-  unfoldable pub Offers : (Shape → Bool) → List Point → List Face → List Offering → State → State → S → Result X E → S → Type 0
+  -- why a pair is refused is printed, and the pair stored
+  unfoldable pub Refuses : Notice → Offering → S → Result X E → S → Type 0
+  Refuses n o h r h' = Ran does fails (Tells 0 nothing_told (refusal_told n o)) h r h'
+
+-- ---- pairs are offered
+module _ (set : Shape → Bool) (d : Draft) (ps : List Point) (fs : List Face) (w : Walk) where
+  -- what goes on from the walk w over these pairs is told, and has led to the state t
+  abbrev pub Offered : {X : Type 0} → List Offering → State → List (Event PlanFile) → Result X (Call PlanFile) → Type 0
+  Offered os t es how =
+      let v = walked set (sheet_in d ps fs) w os in
+      Tells 0 (told_of w) (told_of v) es how × IfOk how (λ x. Made set d ps fs v t)
+
+module _ {S E X : Type 0} (does : S → Event PlanFile → S → Type 0) (fails : S → Call PlanFile → E → S → Type 0) where
+  -- from the state s to t: whatever walk s has made, t has made it further
+  unfoldable pub Offers : (Shape → Bool) → List Point → List Face → List Offering → State → State
+      → S → Result X E → S → Type 0
   Offers set ps fs os s t h r h' =
-      (d : Draft) (sheet : Sheet) (w : Walk) → Made set d ps fs sheet w s
-      → Worked does fails
-      (λ es x. Tells w (walked set sheet w os) es × Made set d ps fs sheet (walked set sheet w os) t)
-      (TellsInPart w (walked set sheet w os)) h r h'
+      (d : Draft) (w : Walk) → Made set d ps fs w s → Ran does fails (Offered set d ps fs w os t) h r h'
 
 -- ---- the pairs of the plan's file are offered as they come
 -- those that came
 abbrev pub pairs_came : List (Event PlanFile) → List Offering
 pairs_came es = offers_in (came (same_file Pairs) es)
 
--- only that file is read, in so many pieces
-pub record ReadsPairs (files : List PlanFile) : Type 0 where
+-- the file came to its end, or so far each piece was full
+abbrev pub CameTo : Bool → List (Event PlanFile) → Type 0
+CameTo true es =
+    (all : List ℕ) → came (same_file Pairs) es ≡ take (asked (same_file Pairs) es) all
+    → all ≡ came (same_file Pairs) es
+CameTo false es =
+    (asked (same_file Pairs) es ≡ length (came (same_file Pairs) es))
+    × (length (came (same_file Pairs) es) % 4 ≡ 0)
+
+-- these bytes came at once, of so many that were asked for, a whole number of pairs
+-- fewer bytes are the last
+unfoldable pub PieceCame : {S : Type 0} → (S → Event PlanFile → S → Type 0) → ℕ → List ℕ → Bool → S → S → Type 0
+PieceCame does size bytes is_last h h' =
+    does h (Read Pairs size bytes) h' × (size % 4 ≡ 0) × (length bytes ≤ size) × (nat_lt (length bytes) size ≡ is_last)
+
+-- what goes on from the walk w to v is told
+pub record TellsFile {X : Type 0} (w v : Walk) (es : List (Event PlanFile)) (how : Result X (Call PlanFile)) : Type 0 where
   pub pieces : ℕ
-  pub each : files ≡ replicate pieces Pairs
+  pub tells : Tells pieces (told_of w) (told_of v) es how
+  pub is_last : Bool
+  pub came : CameTo is_last es
 
--- the file came to its end
-abbrev pub CameWhole : List (Event PlanFile) → Type 0
-CameWhole es =
-    (all : List ℕ) → came (same_file Pairs) es ≡ take (asked (same_file Pairs) es) all → all ≡ came (same_file Pairs) es
-
-pub record TellsFile (w v : Walk) (es : List (Event PlanFile)) : Type 0 where
-  pub lines : refusal_lines v ≡ refusal_lines w ++ printed es
-  pub pairs : refused_pairs v ≡ refused_pairs w ++ stored es
-  pub files : ReadsPairs (files_read es)
-  pub whole : CameWhole es
-
-pub record TellsFileInPart (w v : Walk) (es : List (Event PlanFile)) (call : Call PlanFile) : Type 0 where
-  pub lines : IsFront (refusal_lines w ++ printed es) (refusal_lines v)
-  pub pairs : IsFront (refused_pairs w ++ stored es) (refused_pairs v)
-  pub files : ReadsPairs (files_read es ++ unread call)
-  -- the pairs that came are the first of the file's
-  pub first : (all : List ℕ) → came (same_file Pairs) es ≡ take (asked (same_file Pairs) es) all
-      → IsFront (pairs_came es) (offers_in all)
-  -- where reading fails, all is told of those that came
-  pub told : (f : PlanFile) → call ≡ Reading f → refusal_lines v ≡ refusal_lines w ++ printed es
+module _ (set : Shape → Bool) (d : Draft) (ps : List Point) (fs : List Face) (w : Walk) where
+  -- the last piece has come, or not yet
+  abbrev pub OfferedFile : {X : Type 0} → Bool → State → List (Event PlanFile) → Result X (Call PlanFile) → Type 0
+  OfferedFile is_last t es how =
+      let v = walked set (sheet_in d ps fs) w (pairs_came es) in
+      (told : TellsFile w v es how) × IfOk how (λ x. (told.is_last ≡ is_last) × Made set d ps fs v t)
 
 module _ {S E X : Type 0} (does : S → Event PlanFile → S → Type 0) (fails : S → Call PlanFile → E → S → Type 0) where
-  unfoldable pub OffersFile : (Shape → Bool) → List Point → List Face → State → State → S → Result X E → S → Type 0
-  OffersFile set ps fs s t h r h' =
-      (d : Draft) (sheet : Sheet) (w : Walk) → Made set d ps fs sheet w s
-      → Worked does fails
-      (λ es x. let v = walked set sheet w (pairs_came es) in TellsFile w v es × Made set d ps fs sheet v t)
-      (λ es call. TellsFileInPart w (walked set sheet w (pairs_came es)) es call) h r h'
+  unfoldable pub OffersFile : (Shape → Bool) → List Point → List Face → Bool → State → State
+      → S → Result X E → S → Type 0
+  OffersFile set ps fs is_last s t h r h' =
+      (d : Draft) (w : Walk) → Made set d ps fs w s → Ran does fails (OfferedFile set d ps fs w is_last t) h r h'

@@ -16,6 +16,7 @@ use sheet::{Face, Notice, Point};
 
 /// Offers the pairs that some bytes hold, in their order; of each that is refused its line is
 /// printed and the pair stored.
+#[tactic(auto, using(crate::proofs::Offers::none_offered, crate::proofs::Offers::offers_then, crate::proofs::Offers::offers_short, std::proofs::Common::append_assoc))]
 pub(crate) fn offer_pairs<F: Filter, H: Host<File = PlanFile>>(
     inspection: &mut Inspection<F>,
     points: &[Point],

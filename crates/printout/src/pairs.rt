@@ -1,14 +1,14 @@
 // Offering the pairs of a plan's file.
-ghost use Rattle.std.specs.Prelude.{◌≡◌, ◌↔◌, ◌+◌, ◌<◌, ◌≤◌, ◌%◌, IsTrue, length, take, IfOk, OnOk, MatchResult};
+ghost use Rattle.std.specs.Prelude.{◌≡◌, ◌<◌, ◌≤◌, ◌%◌, true, IsFalse, length, take, IfOk, IfErr, OnOk};
 ghost use Rattle.sheet.specs.Sheet.{point_limit, face_limit};
-ghost use Rattle.hosts.specs.Events.{Read, Reading};
-ghost use Rattle.hosts.specs.Works.{Prints};
+ghost use Rattle.hosts.specs.Events.{Reading};
+ghost use Rattle.hosts.specs.Works.{Prints, Ran};
 ghost use Rattle.inspection.specs.Claims.{Findings};
 ghost use Rattle.inspection.specs.Lists.{contents_of, entries, without_entries};
 ghost use Rattle.inspection.specs.States.{state_of};
 ghost use Rattle.report.specs.Reports.{view_of, report_text};
-ghost use Rattle.printout.specs.Phases.{PairsRan};
-ghost use Rattle.printout.specs.Progress.{Begins, OffersFile, Reportable};
+ghost use Rattle.printout.specs.Phases.{AfterStep};
+ghost use Rattle.printout.specs.Progress.{Begins, OffersFile, PieceCame, Reportable};
 ghost use Rattle.printout.specs.Walks.{places};
 ghost use Rattle.printout.specs.declared.endings.Ending.TheVariants.{Complete};
 ghost use Rattle.printout.specs.declared.plan_files.PlanFile.TheVariants.{Pairs};
@@ -30,6 +30,7 @@ const DEPTH: u8 = 2;
 const PLACES: usize = 512;
 
 /// Offers the pairs of the plan's file, a buffer at a time.
+#[tactic(auto, using(crate::proofs::Files::begun, crate::proofs::Files::unread_piece, crate::proofs::Files::piece_offered, crate::proofs::Files::piece_cut))]
 pub(crate) fn offer_file<F: Filter, H: Host<File = PlanFile>>(
     inspection: &mut Inspection<F>,
     points: &[Point],
@@ -42,7 +43,7 @@ pub(crate) fn offer_file<F: Filter, H: Host<File = PlanFile>>(
     requires some { 0 < length pairs.old }
     requires whole { length pairs.old % 4 ≡ 0 }
     ensures offers { OffersFile H.does H.fails (F.Filter.struck inspection.old.filter)
-        points.now faces.now
+        points.now faces.now true
         (state_of inspection.old vf.old ee.old) (state_of inspection.new vf.new ee.new)
         host.old result host.new }
     ensures filter { inspection.new.filter ≡ inspection.old.filter }
@@ -65,13 +66,15 @@ struct Piece {
 }
 
 /// Reads on in the pairs. A piece that does not fill the buffer is the last.
+#[tactic(auto, unfolding(crate::specs::Progress::PieceCame))]
 fn read_piece<H: Host<File = PlanFile>>(pairs: &mut [u8], host: &mut H) -> Result<Piece, H::Error>
-    ensures read { MatchResult result
-        (λ p. H.does host.old (Read Pairs (length pairs.old) (take p.len pairs.new)) host.new)
-        (λ e. H.fails host.old (Reading Pairs) e host.new) }
-    ensures few { IfOk result (λ p. p.len ≤ length pairs.old) }
-    ensures last { IfOk result (λ p. IsTrue p.is_last ↔ (p.len < length pairs.old)) }
-    ensures less { IfOk result (λ p. H.most host.new + p.len ≤ H.most host.old) }
+    requires some { 0 < length pairs.old }
+    requires whole { length pairs.old % 4 ≡ 0 }
+    ensures came { IfOk result (λ p.
+        PieceCame H.does (length pairs.old) (take p.len pairs.new) p.is_last host.old host.new) }
+    ensures few { IfOk result (λ p. p.len ≤ length pairs.new) }
+    ensures failed { IfErr result (λ e. H.fails host.old (Reading Pairs) e host.new) }
+    ensures less { IfOk result (λ p. IsFalse p.is_last → H.most host.new < H.most host.old) }
 {
     let len = host.fill(PlanFile::Pairs, pairs)?;
     Ok(Piece {
@@ -89,8 +92,8 @@ pub(crate) fn inspect_pairs<H: Host<File = PlanFile>>(
 ) -> Result<Ending, H::Error>
     requires points { draft.points ≤ point_limit }
     requires faces { draft.faces ≤ face_limit }
-    ensures { PairsRan H.does H.fails draft tables.old.points tables.old.faces
-        host.old result host.new }
+    ensures { let comes = AfterStep draft tables.old.points tables.old.faces in
+        Ran H.does H.fails comes host.old result host.new }
 {
     let mut vf_places = [VfName::default(); PLACES];
     let mut ee_places = [EeName::default(); PLACES];
@@ -129,6 +132,7 @@ fn open_plan(
 }
 
 /// Prints what an inspection has found.
+#[tactic(auto, using(crate::proofs::Reported::no_faults))]
 fn print_found<F: Filter, H: Host<File = PlanFile>>(
     inspection: &Inspection<F>,
     points: &[Point],

@@ -3,8 +3,8 @@ ghost use Rattle.std.specs.Prelude.{◌≡◌, min, length, take, drop, IfOk, If
 ghost use Rattle.sheet.specs.Checks.{first_fit, fault_notice};
 ghost use Rattle.inspection.specs.Faults.{notice_of_opening};
 ghost use Rattle.inspection.specs.Sheets.{sheet_in};
-ghost use Rattle.inspection.specs.Lists.{contents_of};
-ghost use Rattle.inspection.specs.States.{state_of, state_at_start};
+ghost use Rattle.inspection.specs.Lists.{contents_of, entries};
+ghost use Rattle.inspection.specs.States.{core_of, state_of, state_at_start};
 ghost use Rattle.inspection.specs.Runs.{depth_checks, Run};
 ghost use Rattle.inspection.specs.Claims.{Claim};
 ghost use Rattle.inspection.specs.Requests.{RequestStep, Steps, history};
@@ -87,7 +87,7 @@ pub fn inspect<F: Filter>(
     ensures claim { IfOk result (λ w.
         Claim (F.Filter.struck filter) draft (sheet_in draft points.now faces.now)
         (history depth (take w.answered requests.now) (take w.answered answers.new))
-        (state_of w.inspection vf.new ee.new)) }
+        (core_of w.inspection) (entries vf.new) (entries ee.new)) }
     ensures vf_lender { (contents_of vf.new).lender ≡ (contents_of vf.old).lender }
     ensures ee_lender { (contents_of ee.new).lender ≡ (contents_of ee.old).lender }
     ensures draft_back { IfErr result (λ x. x.draft ≡ draft) }

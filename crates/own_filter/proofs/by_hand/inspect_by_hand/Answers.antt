@@ -54,5 +54,5 @@ returns g c =
       refused_vf = tt;
       refused_ee = tt;
       state = ((λ k. record { vf = c.findings.ensures.vf k; ee = c.findings.ensures.ee k }) ∙ ap counts_in end, ap (λ (k : State). k.vf) end, ap (λ (k : State). k.ee) end);
-      claim = subst₂ (Claim set a.draft (sheet_in a.draft ps fs)) history end claim;
+      claim = subst₂ (λ (h : List Accepted) (s : State). Claim set a.draft (sheet_in a.draft ps fs) h s.core s.vf.entries s.ee.entries) history end claim;
     }
