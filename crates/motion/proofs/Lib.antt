@@ -1,9 +1,7 @@
 pub mod Integers
 pub mod Products
-pub mod Determinants
 pub mod Signs
-pub mod ControlHalves
-pub mod Bernstein
+pub mod Determinants
 pub mod Gaps
 pub mod Places
 pub mod Halves
