@@ -6,7 +6,6 @@ pub mod Gaps
 pub mod Places
 pub mod Halves
 pub mod Members
-pub mod ByKind
 pub mod Separating
 pub mod RowLaws
 pub mod SlabLaws
