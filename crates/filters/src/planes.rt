@@ -54,6 +54,7 @@ struct Factors {
 }
 
 impl Factors {
+    #[tactic(auto, using(crate::proofs::Inside::power_bound))]
     fn of(test: &Test) -> Factors
         ensures d0 { result.d0 ≡ d0 test.now.shape }
         ensures d1 { result.d1 ≡ d1 test.now.shape }

@@ -26,6 +26,7 @@ impl Test {
     }
 
     /// The first half of the step, on a grid twice as fine.
+    #[tactic(auto, using(crate::proofs::Inside::power_bound))]
     pub(crate) fn first_half(&self) -> Test
         requires { self.now.shape.scale ≤ 5 }
         ensures { result.shape ≡ half 0 self.now.shape }
@@ -43,6 +44,7 @@ impl Test {
     }
 
     /// The last half.
+    #[tactic(auto, using(crate::proofs::Inside::power_bound))]
     pub(crate) fn last_half(&self) -> Test
         requires { self.now.shape.scale ≤ 5 }
         ensures { result.shape ≡ half 1 self.now.shape }

@@ -18,8 +18,7 @@ use Rattle.motion.specs.Slab.{pairs, above, below, parted_along, directions, sla
 use Rattle.motion.specs.Rows.{IsPartOf}
 use Rattle.motion.proofs.Products.{dot-sum, dot-minus}
 use Rattle.motion.proofs.Members.{Each, each-to-all}
-use Rattle.motion.proofs.ByKind.{ones-of, others-of}
-use Rattle.motion.proofs.Halves.{at_start, at_middle, at_end}
+use Rattle.motion.proofs.Halves.{at_start, at_middle, at_end, ones-of, others-of}
 use Rattle.motion.proofs.SlabLaws.{along-lawful}
 use Rattle.motion.proofs.RowLaws.{row-lawful}
 

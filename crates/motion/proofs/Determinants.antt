@@ -1,14 +1,16 @@
--- The control values once more, as determinants: the form in which they are halved, summed and
--- bounded.
-use Rattle.std.proofs.Common.{◌≡◌, ℤ, pos, ◌+ℤ◌, ◌*ℤ◌, arith}
+-- The control values as determinants: those of the halves, and how they bound the determinant on
+-- the way.
+use Rattle.std.proofs.Common.{◌≡◌, ℕ, ◌+◌, ◌*◌, ◌^◌, Bool, true, ◌&&◌, ℤ, pos, ◌+ℤ◌, ◌*ℤ◌, ◌≤ℤ◌, pow-suc, arith}
+use native.Mathlib.Nat.{pow-zero}
 use borrow.Author.Differences.{ints}
 use Rattle.motion.specs.declared.shapes.V3.{V3}
 use Rattle.motion.specs.declared.shapes.Shape.{Shape}
 use Rattle.motion.specs.declared.shapes.Controls.{Controls}
 use Rattle.motion.specs.Vectors.{◌+ᵛ◌, ◌-ᵛ◌, ◌·ᵛ◌, dot, cross}
 use Rattle.motion.specs.Plane.{n0, n1, d0, d1, 2n̂, controls}
-use Rattle.motion.proofs.Integers.{sums}
+use Rattle.motion.proofs.Integers.{products, sums, times-ge}
 use Rattle.motion.proofs.Products.{same, linear}
+use Rattle.motion.proofs.Signs.{Sign}
 
 abbrev pub det : V3 → V3 → V3 → ℤ
 det a b c = dot a (cross b c)
@@ -72,3 +74,72 @@ module _ (t : Shape) where
         g2 = between (d1 t) i +ℤ dot (d0 t) (n1 t);
         g3 = pos 3 *ℤ dot (d1 t) (n1 t);
       }
+
+-- ---- the halves: their values are sums of those of the whole
+abbrev twice : ℤ → ℤ
+twice x = x +ℤ x
+
+-- the value in the middle, times 8
+abbrev middle : Controls → ℤ
+middle g = (g.g0 +ℤ g.g1 +ℤ (g.g1 +ℤ g.g2)) +ℤ (g.g1 +ℤ g.g2 +ℤ (g.g2 +ℤ g.g3))
+
+abbrev pub left : Controls → Controls
+left g = record { g0 = twice (twice (twice g.g0)); g1 = twice (twice (g.g0 +ℤ g.g1)); g2 = twice (g.g0 +ℤ g.g1 +ℤ (g.g1 +ℤ g.g2)); g3 = middle g }
+
+abbrev pub right : Controls → Controls
+right g = record { g0 = middle g; g1 = twice (g.g1 +ℤ g.g2 +ℤ (g.g2 +ℤ g.g3)); g2 = twice (twice (g.g2 +ℤ g.g3)); g3 = twice (twice (twice g.g3)) }
+
+module _ (s e : Triple) where
+  pub left-is : values (sum s s) (sum s e) ≡ left (values s e)
+  left-is = same-controls (simp linear (omega (arith, ints)))
+
+  pub right-is : values (sum s e) (sum e e) ≡ right (values s e)
+  right-is = same-controls (simp linear (omega (arith, ints)))
+
+-- ---- all four of one sign
+abbrev pub all : (ℤ → Bool) → Controls → Bool
+all f g = f g.g0 && f g.g1 && f g.g2 && f g.g3
+
+pub four : (a b c d : Bool) → (a && b && c && d) ≡ true → (a ≡ true) × (b ≡ true) × (c ≡ true) × (d ≡ true)
+four a b c d h = grind arith
+
+from-four : (a b c d : Bool) → a ≡ true → b ≡ true → c ≡ true → d ≡ true → (a && b && c && d) ≡ true
+from-four a b c d p q r s = grind arith
+
+pub halves-all : {f : ℤ → Bool} {k : ℤ} → Sign f k → (g : Controls) → all f g ≡ true → (all f (left g) ≡ true) × (all f (right g) ≡ true)
+halves-all {f} sign g h =
+    let p = four _ _ _ _ h in
+    let ab = sign.adds g.g0 g.g1 p.0 p.1 in
+    let bc = sign.adds g.g1 g.g2 p.1 p.2 in
+    let cd = sign.adds g.g2 g.g3 p.2 p.3 in
+    let abc = sign.adds _ _ ab bc in
+    let bcd = sign.adds _ _ bc cd in
+    let middle = sign.adds _ _ abc bcd in (
+      from-four _ _ _ _ (double (double (double p.0))) (double (double ab)) (double abc) middle,
+      from-four _ _ _ _ middle (double bcd) (double (double cd)) (double (double (double p.3))),
+    )
+  where
+    double : {x : ℤ} → f x ≡ true → f (twice x) ≡ true
+    double {x} p = sign.adds x x p p
+
+-- ---- on the way: Bernstein's form of the determinant, and the bound from it
+-- r is what is left of the step, p what is past
+bernstein : (k r p : ℤ) (s e : Triple)
+    → let g : Controls = values s e in
+    k *ℤ (pos 3 *ℤ det_of (along r p s e))
+    ≡ r *ℤ r *ℤ r *ℤ (k *ℤ g.g0) +ℤ pos 3 *ℤ r *ℤ r *ℤ p *ℤ (k *ℤ g.g1) +ℤ pos 3 *ℤ r *ℤ p *ℤ p *ℤ (k *ℤ g.g2) +ℤ p *ℤ p *ℤ p *ℤ (k *ℤ g.g3)
+bernstein k r p s e = simp (linear, products) (omega (arith, sums))
+
+pub cube : (q : ℕ) → q ^ 3 ≡ q * q * q
+cube q = simp (pow-suc q 2, pow-suc q 1, pow-suc q 0, pow-zero q) (omega arith)
+
+at-least : (r p : ℕ) (z a b c d : ℤ) → pos 1 ≤ℤ a → pos 1 ≤ℤ b → pos 1 ≤ℤ c → pos 1 ≤ℤ d
+    → z ≡ pos (r * r * r) *ℤ a +ℤ pos (3 * r * r * p) *ℤ b +ℤ pos (3 * r * p * p) *ℤ c +ℤ pos (p * p * p) *ℤ d → pos ((r + p) ^ 3) ≤ℤ z
+at-least r p z a b c d ha hb hc hd e =
+    omega (arith, ints, cube (r + p), times-ge (r * r * r) 1 a ha, times-ge (3 * r * r * p) 1 b hb, times-ge (3 * r * p * p) 1 c hc, times-ge (p * p * p) 1 d hd)
+
+pub stays : {f : ℤ → Bool} {k : ℤ} → Sign f k → (s e : Triple) → all f (values s e) ≡ true
+    → (r p : ℕ) → pos ((r + p) ^ 3) ≤ℤ (k *ℤ (pos 3 *ℤ det_of (along (pos r) (pos p) s e)))
+stays {f} {k} sign s e h r p =
+    let a = four _ _ _ _ h in
+    at-least r p _ _ _ _ _ (sign.tells _ a.0) (sign.tells _ a.1) (sign.tells _ a.2) (sign.tells _ a.3) (bernstein k (pos r) (pos p) s e)

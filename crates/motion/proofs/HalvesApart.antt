@@ -13,8 +13,7 @@ use Rattle.motion.specs.Features.{first, second}
 use Rattle.motion.specs.Laws.{FarBy, on-x, on-y, on-z, ApartAt, ApartBy, at, portion, half, weighted, total, difference}
 use Rattle.motion.proofs.Integers.{scales}
 use Rattle.motion.proofs.Products.{same}
-use Rattle.motion.proofs.ByKind.{ones-of, others-of}
-use Rattle.motion.proofs.Halves.{at_start, at_middle, at_end}
+use Rattle.motion.proofs.Halves.{at_start, at_middle, at_end, ones-of, others-of}
 
 -- ---- the same place, on the finer grid
 first-at : (p q : ℕ) (m : Moving) → at (2 * p) q (portion 1 0 m) ≡ pos 2 ·ᵛ at p q m

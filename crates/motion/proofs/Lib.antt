@@ -1,14 +1,11 @@
 pub mod Integers
 pub mod Products
-pub mod Determinants
 pub mod Signs
-pub mod ControlHalves
-pub mod Bernstein
+pub mod Determinants
 pub mod Gaps
 pub mod Places
 pub mod Halves
 pub mod Members
-pub mod ByKind
 pub mod Separating
 pub mod RowLaws
 pub mod SlabLaws

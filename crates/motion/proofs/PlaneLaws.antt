@@ -13,10 +13,8 @@ use Rattle.motion.specs.Laws.{Within, InReach, Valid, Apart, Lawful, at, half}
 use Rattle.motion.specs.Plane.{normal, controls, all_above, all_below, plane_set, volume_at, StaysAbove, StaysBelow, NeverCoplanar}
 use Rattle.motion.proofs.Integers.{products, sums}
 use Rattle.motion.proofs.Products.{same, dot-minus, dot-comm, cross-first, cross-second, times-dot}
-use Rattle.motion.proofs.Determinants.{values, at_start, at_end, sum, controls-are}
+use Rattle.motion.proofs.Determinants.{values, at_start, at_end, sum, controls-are, left, right, left-is, right-is, all, halves-all, stays, cube}
 use Rattle.motion.proofs.Signs.{Sign, positive, negative}
-use Rattle.motion.proofs.ControlHalves.{left, right, left-is, right-is, all, halves-all}
-use Rattle.motion.proofs.Bernstein.{stays, cube}
 use Rattle.motion.proofs.Gaps.{size, size-times, cross-small}
 use Rattle.motion.proofs.Places.{at-minus, within-at, within-minus}
 use Rattle.motion.proofs.Halves.{minus-start, minus-middle, minus-end}

@@ -16,8 +16,7 @@ use Rattle.motion.proofs.Signs.{Sign, positive, negative}
 use Rattle.motion.proofs.Gaps.{size, size-times}
 use Rattle.motion.proofs.Places.{at-minus}
 use Rattle.motion.proofs.RowLaws.{row-lawful}
-use Rattle.motion.proofs.ByKind.{ones-of, others-of}
-use Rattle.motion.proofs.Halves.{minus-start, minus-middle, minus-end}
+use Rattle.motion.proofs.Halves.{minus-start, minus-middle, minus-end, ones-of, others-of}
 use Rattle.motion.proofs.Members.{Each, each-passes, all-map}
 use Rattle.motion.proofs.Separating.{Beyond, apart-along}
 

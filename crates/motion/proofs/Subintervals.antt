@@ -1,6 +1,6 @@
 -- A subinterval of a half is a subinterval of the whole; a subinterval of a test within its bounds
 -- is within its own.
-use Rattle.std.proofs.Common.{◌≡◌, ℕ, suc, ◌+◌, ◌*◌, ◌^◌, ◌<◌, ◌≤◌, ap, ◌∙◌, subst, add_assoc, mul_comm, pow-suc, arith}
+use Rattle.std.proofs.Common.{◌≡◌, ℕ, suc, ◌+◌, ◌*◌, ◌^◌, ◌<◌, ◌≤◌, ap, ◌∙◌, add_assoc, arith}
 use Rattle.std.proofs.lemmas.Nat.{pow-add}
 use borrow.Author.Differences.{ints}
 use Rattle.motion.specs.declared.shapes.Moving.{Moving}
@@ -16,12 +16,9 @@ nested-at : (m : Moving) (H i j : ℕ) → at (i * H + j) (2 * H) m ≡ at j H (
 unfolding at ◌+ᵛ◌ ◌·ᵛ◌
 nested-at m H i j = same (simp scales (omega (arith, ints)))
 
-double : (d : ℕ) → 2 ^ suc d ≡ 2 * 2 ^ d
-double d = pow-suc 2 d ∙ mul_comm (2 ^ d) 2
-
 nested-after : (m : Moving) (d i j : ℕ) → after (suc d) (i * 2 ^ d + j) m ≡ after d j (portion 1 i m)
 unfolding after
-nested-after m d i j = ap (λ (q : ℕ). at (i * 2 ^ d + j) q m) (double d) ∙ nested-at m (2 ^ d) i j
+nested-after m d i j = let double : 2 ^ suc d ≡ 2 * 2 ^ d = omega arith in ap (λ (q : ℕ). at (i * 2 ^ d + j) q m) double ∙ nested-at m (2 ^ d) i j
 
 nested-portion : (m : Moving) (d i j : ℕ) → portion (suc d) (i * 2 ^ d + j) m ≡ portion d j (portion 1 i m)
 nested-portion m d i j =
@@ -35,31 +32,21 @@ nested-subinterval t d i j =
     let finer : t.scale + suc d ≡ t.scale + 1 + d = omega arith in λ n. with_points (λ m. nested-portion m d i j n) (finer n) t
 
 pub twice : (d : ℕ) → 2 ^ suc d ≡ 2 ^ d + 2 ^ d
-twice d = omega (arith, pow-suc 2 d)
+twice d = omega arith
 
 -- the first 2^d subintervals are those of the first half, the others those of the last
 pub in-first : (t : Shape) (d j : ℕ) → subinterval (suc d) j t ≡ subinterval d j (half 0 t)
-in-first t d j = ap (λ k. subinterval (suc d) k t) same ∙ nested-subinterval t d 0 j
-  where
-    same : j ≡ 0 * 2 ^ d + j
-    same = omega arith
+in-first t d j = let same : j ≡ 0 * 2 ^ d + j = omega arith in ap (λ k. subinterval (suc d) k t) same ∙ nested-subinterval t d 0 j
 
 pub in-last : (t : Shape) (d j : ℕ) → subinterval (suc d) (2 ^ d + j) t ≡ subinterval d j (half 1 t)
-in-last t d j = ap (λ k. subinterval (suc d) k t) same ∙ nested-subinterval t d 1 j
-  where
-    same : 2 ^ d + j ≡ 1 * 2 ^ d + j
-    same = omega arith
+in-last t d j = let same : 2 ^ d + j ≡ 1 * 2 ^ d + j = omega arith in ap (λ k. subinterval (suc d) k t) same ∙ nested-subinterval t d 1 j
 
 -- ---- the whole is its only subinterval of depth 0
 whole-portion : (m : Moving) → portion 0 0 m ≡ m
 unfolding after at ◌+ᵛ◌ ◌·ᵛ◌
-whole-portion m = λ n. record { start = start n; end = end n }
-  where
-    start : at 0 1 m ≡ m.start
-    start = same (omega (arith, ints))
-
-    end : at 1 1 m ≡ m.end
-    end = same (omega (arith, ints))
+whole-portion m =
+    let start : at 0 1 m ≡ m.start = same (omega (arith, ints)) in
+    let end : at 1 1 m ≡ m.end = same (omega (arith, ints)) in λ n. record { start = start n; end = end n }
 
 pub whole : (t : Shape) → subinterval 0 0 t ≡ t
 whole t = let same : t.scale + 0 ≡ t.scale = omega arith in λ n. with_points (λ m. whole-portion m n) (same n) t
@@ -67,10 +54,9 @@ whole t = let same : t.scale + 0 ≡ t.scale = omega arith in λ n. with_points 
 -- ---- bounds
 reach-after : (k h j : ℕ) → j ≤ 2 ^ h → (m : Moving) → InReach k m → Within (4096 * 2 ^ (k + h)) (after h j m)
 unfolding after
-reach-after k h j le m r = subst (λ (B : ℕ). Within B (at j (2 ^ h) m)) finer (within-at (4096 * 2 ^ k) j (2 ^ h) m le r.0 r.1)
-  where
-    finer : 4096 * 2 ^ k * 2 ^ h ≡ 4096 * 2 ^ (k + h)
-    finer = omega (arith, pow-add 2 k h)
+reach-after k h j le m r =
+    let finer : 4096 * 2 ^ k * 2 ^ h ≡ 4096 * 2 ^ (k + h) = omega (arith, pow-add 2 k h) in
+    rw finer at (within-at (4096 * 2 ^ k) j (2 ^ h) m le r.0 r.1)
 
 pub valid-subinterval : (t : Shape) → Valid t → (h j : ℕ) → t.scale + h ≤ 6 → j < 2 ^ h → Valid (subinterval h j t)
 valid-subinterval t (_, p, a, b, c) h j room lt = (room, reach t.p p, reach t.a a, reach t.b b, reach t.c c)

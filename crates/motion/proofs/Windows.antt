@@ -14,20 +14,23 @@ use Rattle.motion.proofs.DepthLaws.{whole-struck, struck}
 record First (f : ℕ → Bool) (n i : ℕ) : Type 0 where
   within : i < n
   here : f i ≡ false
-  before : every f i ≡ true
+  before : (k : ℕ) → k < i → f k ≡ true
 
 record Last (f : ℕ → Bool) (n j : ℕ) : Type 0 where
   within : j < n
   here : f j ≡ false
-  beyond : every (λ k. f (suc j + k)) (n - suc j) ≡ true
+  beyond : (k : ℕ) → j < k → k < n → f k ≡ true
 
-none-beyond : (f : ℕ → Bool) (n : ℕ) → every (λ k. f (suc n + k)) (suc n - suc n) ≡ true
-none-beyond f n = let e : suc n - suc n ≡ 0 = omega arith in ap (every (λ k. f (suc n + k))) e
+one-more : (f : ℕ → Bool) (n k : ℕ) → k < suc n → f n ≡ true → (k < n → f k ≡ true) → f k ≡ true
+one-more f n k h e below = go (dec_le n k)
+  where
+    go : Dec (n ≤ k) → f k ≡ true
+    go (yes q) = let same : k ≡ n = omega arith in ap f same ∙ e
+    go (no q) = below (omega arith)
 
-one-beyond : (f : ℕ → Bool) (n j : ℕ) → j < n → f n ≡ true → every (λ k. f (suc j + k)) (n - suc j) ≡ true → every (λ k. f (suc j + k)) (suc n - suc j) ≡ true
-one-beyond f n j c h w =
-    let more : suc n - suc j ≡ suc (n - suc j) = omega arith in
-    let top : suc j + (n - suc j) ≡ n = omega arith in ap (every (λ k. f (suc j + k))) more ∙ and_from _ _ w (ap f top ∙ h)
+every-at : (f : ℕ → Bool) (n k : ℕ) → k < n → every f n ≡ true → f k ≡ true
+every-at f zero k h e = absurd (omega arith)
+every-at f (suc n) k h e = let p = and_parts (every f n) (f n) e in one-more f n k h p.1 (λ r. every-at f n k r p.0)
 
 first-says : (f : ℕ → Bool) (n : ℕ) → MatchOption (first_lacking f n) (every f n ≡ true) (First f n)
 first-says f zero = refl
@@ -35,7 +38,7 @@ first-says f (suc n) = turn (first_lacking f n) (f n) refl (first-says f n)
   where
     turn : (o : Option ℕ) (b : Bool) → f n ≡ b → MatchOption o (every f n ≡ true) (First f n) → MatchOption (option_or o (cond b None (Some n))) ((every f n && f n) ≡ true) (First f (suc n))
     turn None true e h = and_from _ _ h e
-    turn None false e h = record { within = omega arith; here = e; before = h }
+    turn None false e h = record { within = omega arith; here = e; before = λ k l. every-at f n k l h }
     turn (Some i) b e h = record { within = omega (arith, h.within); here = h.here; before = h.before }
 
 last-says : (f : ℕ → Bool) (n : ℕ) → MatchOption (last_lacking f n) (every f n ≡ true) (Last f n)
@@ -44,16 +47,8 @@ last-says f (suc n) = turn (last_lacking f n) (f n) refl (last-says f n)
   where
     turn : (o : Option ℕ) (b : Bool) → f n ≡ b → MatchOption o (every f n ≡ true) (Last f n) → MatchOption (cond b o (Some n)) ((every f n && f n) ≡ true) (Last f (suc n))
     turn None true e h = and_from _ _ h e
-    turn (Some j) true e h = record { within = omega (arith, h.within); here = h.here; beyond = one-beyond f n j h.within e h.beyond }
-    turn o false e h = record { within = omega arith; here = e; beyond = none-beyond f n }
-
-every-at : (f : ℕ → Bool) (n k : ℕ) → k < n → every f n ≡ true → f k ≡ true
-every-at f zero k h e = absurd (omega arith)
-every-at f (suc n) k h e = let p = and_parts (every f n) (f n) e in go (dec_le n k) p.1 (λ r. every-at f n k r p.0)
-  where
-    go : Dec (n ≤ k) → f n ≡ true → (k < n → f k ≡ true) → f k ≡ true
-    go (yes q) r s = let same : k ≡ n = omega arith in ap f same ∙ r
-    go (no q) r s = s (omega arith)
+    turn (Some j) true e h = record { within = omega (arith, h.within); here = h.here; beyond = λ k l m. one-more f n k m e (h.beyond k l) }
+    turn o false e h = record { within = omega arith; here = e; beyond = λ k l m. absurd (omega arith) }
 
 lacks-none : (f : ℕ → Bool) (n i : ℕ) → i < n → f i ≡ false → every f n ≡ true → ⊥
 lacks-none f n i h e a = both_ways (f i) e (every-at f n i h a)
@@ -171,15 +166,7 @@ module _ (set : Shape → Bool) where
 -- ---- what the window means, for a set that keeps the laws
 module _ (set : Shape → Bool) (l : Lawful set) (d : ℕ) (t : Shape) (v : Valid t) (room : t.scale + d ≤ 6) where
   outside : (i j : ℕ) → IsWindow set d t i j → (n : ℕ) → n < 2 ^ d → (n < i) ⊎ (j < n) → Apart (subinterval d n t)
-  outside i j w n h o = l.apart (subinterval d n t) (valid-subinterval t v d n room h) (⊎_elim early late o)
-    where
-      early : n < i → part set d t n ≡ true
-      early e = every-at (part set d t) i n e w.before
-
-      late : j < n → part set d t n ≡ true
-      late e =
-          let same : n ≡ suc j + (n - suc j) = omega arith in
-          ap (part set d t) same ∙ every-at (λ k. part set d t (suc j + k)) (2 ^ d - suc j) (n - suc j) (omega arith) w.beyond
+  outside i j w n h o = l.apart (subinterval d n t) (valid-subinterval t v d n room h) (⊎_elim (w.before n) (λ e. w.beyond n e h) o)
 
   pub window-means : (w : Option (ℕ × ℕ)) → w ≡ window_at set d t → WindowMeans set d t w
   window-means None e = struck set l d t v room ((finds-window set d t).none.0 (sym e))

@@ -1,5 +1,5 @@
 -- Struck at a depth, and the window.
-use Rattle.std.specs.Prelude.{◌≡◌, ◌↔◌, ℕ, zero, suc, ◌+◌, ◌-◌, ◌^◌, ◌<◌, ◌≤◌, Bool, true, ◌&&◌, ◌⊎◌, if◌then◌else◌, Option, Some, None, MatchOption, IsTrue}
+use Rattle.std.specs.Prelude.{◌≡◌, ◌↔◌, ℕ, zero, suc, ◌+◌, ◌^◌, ◌<◌, ◌≤◌, Bool, true, ◌&&◌, ◌⊎◌, if◌then◌else◌, Option, Some, None, MatchOption, IsTrue}
 use Rattle.std.specs.Bool.{IsFalse}
 use Rattle.std.specs.Option.{option_or, option_zip}
 use Rattle.motion.specs.declared.shapes.Shape.{Shape}
@@ -24,9 +24,9 @@ pub record Struck (set : Shape → Bool) (d : ℕ) (t : Shape) : Type 0 where
 pub record IsWindow (set : Shape → Bool) (d : ℕ) (t : Shape) (i j : ℕ) : Type 0 where
   pub within : j < 2 ^ d
   pub first : IsFalse (set (subinterval d i t))
-  pub before : IsTrue (every (λ n. set (subinterval d n t)) i)
+  pub before : (n : ℕ) → n < i → IsTrue (set (subinterval d n t))
   pub last : IsFalse (set (subinterval d j t))
-  pub beyond : IsTrue (every (λ n. set (subinterval d (suc j + n) t)) (2 ^ d - suc j))
+  pub beyond : (n : ℕ) → j < n → n < 2 ^ d → IsTrue (set (subinterval d n t))
 
 -- what it owes to the laws: in each subinterval before i or after j the features stay apart
 pub record Window (set : Shape → Bool) (d : ℕ) (t : Shape) (i j : ℕ) : Type 0 where

@@ -1,5 +1,5 @@
 -- One line more: the checks, the counts and the rows of the lines that are left.
-use Rattle.std.proofs.Common.{◌≡◌, ℕ, ◌+◌, ◌<◌, ◌≤◌, true, List, [], ◌∷◌, ◌++◌, length, take, drop, set, Some, None, sym, refl, ap, ◌∙◌, arith}
+use Rattle.std.proofs.Common.{◌≡◌, ℕ, ◌+◌, ◌<◌, ◌≤◌, true, List, [], ◌∷◌, ◌++◌, length, take, drop, set, Some, None, sym, refl, ◌∙◌, arith}
 use Rattle.std.proofs.lemmas.List.{take_more_set, drop-set-lt, append_assoc}
 use Rattle.std.proofs.lemmas.Bool.{ltb-true}
 use Rattle.sheet.specs.Checks.{first_fit}
@@ -14,17 +14,13 @@ use Rattle.sheet.specs.declared.rows.Face.{Face}
 use Rattle.sheet.proofs.FirstFit.{past, stop}
 
 pub checks_more : (room above next : Counts) (s : Entry) (l : ℕ × List ℕ) (ls ms : List (ℕ × List ℕ)) → ms ≡ l ∷ ls → next ≡ counting above s → s ≡ entry_of l.1 → None ≡ first_fit (line_checks room above l) → first_fit (lines_checks room next ls) ≡ first_fit (lines_checks room above ms)
-checks_more room above next s l ls ms p q r e =
-    ap (λ a. first_fit (lines_checks room a ls)) (q ∙ ap (counting above) r)
-    ∙ past (line_checks room above l) (lines_checks room (counting above (entry_of l.1)) ls) e
-    ∙ ap (λ t. first_fit (lines_checks room above t)) (sym p)
+checks_more room above next s l ls ms p q r e = rw (q, r, p) (past (line_checks room above l) _ e)
 
 pub checks_stop : (room above : Counts) (l : ℕ × List ℕ) (ls ms : List (ℕ × List ℕ)) (d : Notice) → ms ≡ l ∷ ls → Some d ≡ first_fit (line_checks room above l) → Some d ≡ first_fit (lines_checks room above ms)
-checks_stop room above l ls ms d p e =
-    stop (line_checks room above l) (lines_checks room (counting above (entry_of l.1)) ls) d e ∙ ap (λ t. first_fit (lines_checks room above t)) (sym p)
+checks_stop room above l ls ms d p e = rw p (stop (line_checks room above l) _ d e)
 
 pub total_more : (above next : Counts) (s : Entry) (l : ℕ × List ℕ) (ls ms : List (ℕ × List ℕ)) → ms ≡ l ∷ ls → next ≡ counting above s → s ≡ entry_of l.1 → total next ls ≡ total above ms
-total_more above next s l ls ms p q r = ap (λ a. total a ls) (q ∙ ap (counting above) r) ∙ ap (total above) (sym p)
+total_more above next s l ls ms p q r = rw (q, r, p)
 
 -- rows over those of a table from i on
 abbrev pub pasted : {X : Type 0} → List X → ℕ → List X → List X
@@ -47,11 +43,11 @@ by_face room above (entry.Face x) t rows p h = sym (pasted_more t above.faces x 
 
 pub points_more : (room above next : Counts) (s : Entry) (t u : List Point) (l : ℕ × List ℕ) (ls ms : List (ℕ × List ℕ)) → ms ≡ l ∷ ls → next ≡ counting above s → s ≡ entry_of l.1 → u ≡ with_point above s t → has_place room above s ≡ true → room.points ≤ length t → pasted u next.points (points_in ls) ≡ pasted t above.points (points_in ms)
 points_more room above next s t u l ls ms p c e w h k =
-    rw (w, c, p) (by_point room above s t (points_in ls) h k ∙ ap (λ v. pasted t above.points (point_row v ++ points_in ls)) e)
+    rw (w, c, p, ← e) (by_point room above s t (points_in ls) h k)
 
 pub faces_more : (room above next : Counts) (s : Entry) (t u : List Face) (l : ℕ × List ℕ) (ls ms : List (ℕ × List ℕ)) → ms ≡ l ∷ ls → next ≡ counting above s → s ≡ entry_of l.1 → u ≡ with_face above s t → has_place room above s ≡ true → room.faces ≤ length t → pasted u next.faces (faces_in ls) ≡ pasted t above.faces (faces_in ms)
 faces_more room above next s t u l ls ms p c e w h k =
-    rw (w, c, p) (by_face room above s t (faces_in ls) h k ∙ ap (λ v. pasted t above.faces (face_row v ++ faces_in ls)) e)
+    rw (w, c, p, ← e) (by_face room above s t (faces_in ls) h k)
 
 -- the counts are those of the rows
 by_kind : (above : Counts) (e : Entry) (ps : List Point) (fs : List Face) → ((counting above e).points + length ps ≡ above.points + length (point_row e ++ ps)) × ((counting above e).faces + length fs ≡ above.faces + length (face_row e ++ fs))

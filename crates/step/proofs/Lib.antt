@@ -6,4 +6,3 @@ pub mod LongestRecord
 pub mod NextRow
 pub mod RowLaws
 pub mod StepLaws
-pub mod WriteAnswers

@@ -1,24 +1,8 @@
 use Rattle.std.proofs.Common.{◌≡◌}
 use Rattle.motion.specs.Plane.{velocity_normal, 2n̂}
 use Rattle.filters.proofs.Reaches.{reached, same-reach, plus-reach, minus-reach}
-use Rattle.filters.proofs.Volumes.{near, n0-reach, n1-reach, velocity-normal-reach}
+use Rattle.filters.proofs.Volumes.{n0-reach, n1-reach, velocity-normal-reach}
 use Rattle.filters.proofs.planes.Factors.of.Goals as goal
-
--- ---- each point is within the bounds of a test
-pub way-requires : goal.way-requires
-way-requires c = let t = c.args.test.now in (near t.shape t.valid t.shape.a.start t.valid.2.0, near t.shape t.valid t.shape.a.end t.valid.2.1)
-
-pub way-requires-2 : goal.way-requires-2
-way-requires-2 c = let t = c.args.test.now in (near t.shape t.valid t.shape.b.start t.valid.3.0, near t.shape t.valid t.shape.b.end t.valid.3.1)
-
-pub way-requires-3 : goal.way-requires-3
-way-requires-3 c = let t = c.args.test.now in (near t.shape t.valid t.shape.c.start t.valid.4.0, near t.shape t.valid t.shape.c.end t.valid.4.1)
-
-pub way-requires-4 : goal.way-requires-4
-way-requires-4 c = let t = c.args.test.now in (near t.shape t.valid t.shape.a.start t.valid.2.0, near t.shape t.valid t.shape.p.start t.valid.1.0)
-
-pub way-requires-5 : goal.way-requires-5
-way-requires-5 c = let t = c.args.test.now in (near t.shape t.valid t.shape.a.end t.valid.2.1, near t.shape t.valid t.shape.p.end t.valid.1.1)
 
 -- ---- the normals
 pub plus-requires : goal.plus-requires
