@@ -25,6 +25,10 @@ abbrev faulty : FrameFile → SheetFault → Outcome
 faulty file fault = record { record_stored = None; line = fault_line (notice_of_sheet fault); answer = Faulty file }
 
 module _ {S E : Type 0} (does : S → Event FrameFile → S → Type 0) (fails : S → Call FrameFile → E → S → Type 0) where
+  says : (file : FrameFile) {s t : S} {ps : List Point} {fs : List Face} {read : Result Draft SheetFault} (r : FrameRead does file s ps fs read t)
+      (x : Result Draft SheetFault) → read ≡ x → (text : List ℕ) → r.came ++ [] ≡ take (text_limit + 1) text → Says text ps fs x
+  says file {ps = ps} {fs = fs} r x is text h = subst (Says text ps fs) is (r.says text (sym (append-nil r.came) ∙ h))
+
   pub first_not_read : (s t : S) (e : E) (r : Result Recording E) → fails s (Reading Start) e t → r ≡ Err e → Records does fails s r t
   first_not_read s t e r = stops_at does fails s s t [] refl nothing r Start e (λ f h. record { rest = _; parts = refl })
 
@@ -35,20 +39,17 @@ module _ {S E : Type 0} (does : S → Event FrameFile → S → Type 0) (fails :
     one_went : Went does s one t
     one_went = next (Read Start (text_limit + 1) first.came) nothing first.did
 
-    first_says : (x : Result Draft SheetFault) → read ≡ x → (text : List ℕ) → first.came ++ [] ≡ take (text_limit + 1) text → Says text ps fs x
-    first_says x is text h = subst (Says text ps fs) is (first.says text (sym (append-nil first.came) ∙ h))
-
     pub first_faulty : (u : S) (fault : SheetFault) (r : Result Recording E) → read ≡ Err fault
         → Writes does fails (Printed (with_line_feed (fault_line (notice_of_sheet fault))) ∷ []) (Faulty Start) t r u → Records does fails s r u
     first_faulty u fault r is =
         ends_so does fails s t u one refl one_went r (faulty Start fault)
-        (λ f h. let bad = first_says (Err fault) is f.start (h Start) in (rw bad refl, rw bad refl))
+        (λ f h. let bad = says Start first (Err fault) is f.start (h Start) in (rw bad refl, rw bad refl))
 
     module _ (d : Draft) (good : read ≡ Ok d) where
       pub second_not_read : (u : S) (e : E) (r : Result Recording E) → fails t (Reading End) e u → r ≡ Err e → Records does fails s r u
       second_not_read u e r =
           stops_at does fails s t u one refl one_went r End e
-          (λ f h. rw (first_says (Ok d) good f.start (h Start)).no_fault (record { rest = []; parts = refl }))
+          (λ f h. rw (says Start first (Ok d) good f.start (h Start)).no_fault (record { rest = []; parts = refl }))
 
       module _ (u v : S) (qs : List Point) (gs : List Face) (read_too : Result Draft SheetFault) (second : FrameRead does End t qs gs read_too u) where
         abbrev two : List (Event FrameFile)
@@ -57,16 +58,13 @@ module _ {S E : Type 0} (does : S → Event FrameFile → S → Type 0) (fails :
         two_went : Went does s two u
         two_went = next (Read End (text_limit + 1) second.came) one_went second.did
 
-        second_says : (x : Result Draft SheetFault) → read_too ≡ x → (text : List ℕ) → second.came ++ [] ≡ take (text_limit + 1) text → Says text qs gs x
-        second_says x is text h = subst (Says text qs gs) is (second.says text (sym (append-nil second.came) ∙ h))
-
         pub second_faulty : (fault : SheetFault) (r : Result Recording E) → read_too ≡ Err fault
             → Writes does fails (Printed (with_line_feed (fault_line (notice_of_sheet fault))) ∷ []) (Faulty End) u r v → Records does fails s r v
         second_faulty fault r is =
             ends_so does fails s u v two refl two_went r (faulty End fault)
             (λ f h.
-            let a = (first_says (Ok d) good f.start (h Start)).no_fault in
-            (rw (a, second_says (Err fault) is f.end (h End)) refl, rw a refl))
+            let a = (says Start first (Ok d) good f.start (h Start)).no_fault in
+            (rw (a, says End second (Err fault) is f.end (h End)) refl, rw a refl))
 
         pub both_read : (e : Draft) (points ends : List Point) (faces others : List Face) (r : Result Recording E)
             → (let o = outcome_between d points faces e ends others in Writes does fails (writes_of o) o.answer u r v)
@@ -75,8 +73,8 @@ module _ {S E : Type 0} (does : S → Event FrameFile → S → Type 0) (fails :
         both_read e points ends faces others r written is p q p' q' =
             ends_so does fails s u v two refl two_went r (outcome_between d points faces e ends others)
             (λ f h.
-            let a = first_says (Ok d) good f.start (h Start) in
-            let b = second_says (Ok e) is f.end (h End) in
+            let a = says Start first (Ok d) good f.start (h Start) in
+            let b = says End second (Ok e) is f.end (h End) in
             let settled : outcome_between d points faces e ends others ≡ outcome_between (draft_of f.start) (points_of f.start) (faces_of f.start) (draft_of f.end) (points_of f.end) (faces_of f.end) =
             λ i. outcome_between (a.draft i) ((p ∙ a.points) i) ((q ∙ a.faces) i) (b.draft i) ((p' ∙ b.points) i) ((q' ∙ b.faces) i) in
             (rw (a.no_fault, b.no_fault) (sym settled), rw a.no_fault refl)) written

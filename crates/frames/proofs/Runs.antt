@@ -1,5 +1,5 @@
 -- Whole texts whose first bytes were read, and then what comes of them was written.
-use Rattle.std.proofs.Common.{◌≡◌, List, [], ◌∷◌, ◌++◌, Some, None, Err, Result, refl, ap, ◌∙◌}
+use Rattle.std.proofs.Common.{arith, ◌≡◌, List, [], ◌∷◌, ◌++◌, Some, None, Err, Result, refl, ap, ◌∙◌}
 use Rattle.std.proofs.lemmas.List.{append-nil}
 use Rattle.std.proofs.lemmas.List.Concat.{flat_map-append}
 use Rattle.hosts.specs.Events.{Event, Printed, Call, Reading, files_read, file_read_by}
@@ -8,7 +8,7 @@ use Rattle.hosts.specs.Works.{IsFront}
 use Rattle.hosts.specs.Writing.{at_none, Writes, writes, write_of}
 use Rattle.hosts.proofs.Fronts.{whole}
 use Rattle.hosts.proofs.Histories.{fits_before}
-use Rattle.hosts.proofs.Working.{worked_after}
+use Rattle.hosts.proofs.Continuing.{worked_after}
 use Rattle.hosts.proofs.Writing.{writes-began, files_read-began}
 use Rattle.frames.specs.Frames.{Frames, text_of}
 use Rattle.frames.specs.Outcomes.{Outcome, outcome, writes_of, stored_first, with_line_feed, needed}
@@ -18,15 +18,10 @@ use Rattle.frames.specs.declared.frame_files.Recording.{Recording}
 use Rattle.frames.proofs.Endings.{means}
 
 writes-writes_of : (o : Outcome) → writes {F = FrameFile} (writes_of o) ≡ writes_of o
-writes-writes_of o =
-    elim o.record_stored as (λ b. writes {F = FrameFile} (stored_first b (Printed (with_line_feed o.line) ∷ [])) ≡ stored_first b (Printed (with_line_feed o.line) ∷ [])) [
-      | None ↦ refl
-      | Some bytes ↦ refl
-    ]
+writes-writes_of o = grind arith
 
 files_read-writes_of : (o : Outcome) → files_read {F = FrameFile} (writes_of o) ≡ []
-files_read-writes_of o =
-    elim o.record_stored as (λ b. files_read {F = FrameFile} (stored_first b (Printed (with_line_feed o.line) ∷ [])) ≡ []) [ None ↦ refl | Some bytes ↦ refl ]
+files_read-writes_of o = grind arith
 
 module _ {S E : Type 0} (does : S → Event FrameFile → S → Type 0) (fails : S → Call FrameFile → E → S → Type 0) (s t u : S) (reads : List (Event FrameFile)) (reads_only : writes reads ≡ [])
     (went : Went does s reads t) (r : Result Recording E) where

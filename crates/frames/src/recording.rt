@@ -105,6 +105,7 @@ fn record_rows<H: Host>(
 }
 
 /// The record of these rows, which are the draft's points, written into the buffer.
+#[tactic(auto, using(std::proofs::lemmas::Grind::common_steps, step::proofs::LongestRecord::rows_most))]
 fn record_in<'a>(draft: &Draft, rows: &[Point], buffer: &'a mut [u8]) -> &'a [u8]
     requires all { length rows.now ≡ draft.now.points }
     requires few { length rows.now ≤ point_limit }

@@ -1,7 +1,7 @@
+pub mod Continuing
 pub mod Fronts
 pub mod Histories
 pub mod Printing
 pub mod Remembering
 pub mod Showing
-pub mod Working
 pub mod Writing

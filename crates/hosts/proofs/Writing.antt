@@ -3,7 +3,7 @@ use Rattle.std.proofs.Common.{◌≡◌, List, [], ◌∷◌, ◌++◌, ℕ, Ok,
 use Rattle.hosts.specs.Events.{Event, Read, Printed, Stored, Call, Printing, Storing, files_read, printed, stored}
 use Rattle.hosts.specs.Traces.{nothing, next, CutOff}
 use Rattle.hosts.specs.Writing.{BeganTo, at_none, in_a_print, in_a_store, after_print, after_store, IsWrittenInPart, Writes, writes}
-use Rattle.hosts.proofs.Working.{worked_after, cut_stops}
+use Rattle.hosts.proofs.Continuing.{worked_after, cut_stops}
 
 module _ {F : Type 0} where
   -- what is begun reads nothing
