@@ -11,7 +11,7 @@ use Rattle.hosts.proofs.Writing.{printed-writes, stored-writes}
 use Rattle.step.specs.Steps.{Step}
 use Rattle.frames.specs.Frames.{Frames, text_of, points_of, step_between}
 use Rattle.frames.specs.Memory.{frames_in}
-use Rattle.frames.specs.Outcomes.{Outcome, outcome, with_line_feed, stored_first, writes_of}
+use Rattle.frames.specs.Outcomes.{Outcome, outcome, with_line_feed, writes_of}
 use Rattle.frames.specs.Works.{same_file, ReadsFrames, EndsAs}
 use Rattle.frames.specs.declared.frame_files.FrameFile.{FrameFile}
 use Rattle.frames.specs.declared.frame_files.Recording.{Recording}
