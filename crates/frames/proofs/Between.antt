@@ -1,7 +1,7 @@
 -- Two frames that do not differ: the step between them.
 use Rattle.std.proofs.Common.{◌≡◌, Bool, true, false, cond, eqb, List, [], ◌∷◌, length, Some, None, Option, refl, arith}
 use Rattle.std.specs.List.{All}
-use Rattle.std.proofs.lemmas.Bool.{eqb-true}
+use Rattle.std.proofs.lemmas.Bool.Decides.{nat_tests}
 use Rattle.std.proofs.lemmas.List.Elements.{All-head, All-tail}
 use Rattle.sheet.specs.IsSheet.{IsResting}
 use Rattle.sheet.specs.declared.drafts.Draft.{Draft}
@@ -13,11 +13,7 @@ use Rattle.frames.specs.declared.comparing.Difference.{Difference}
 
 -- they have as many points
 pub same_count : (d e : Draft) (fs gs : List Face) → difference_of d fs e gs ≡ None → d.points ≡ e.points
-same_count d e fs gs h = eqb-true d.points e.points (by_test (eqb d.points e.points) _ _ h)
-  where
-    by_test : (b : Bool) (o : Option Difference) (x : Difference) → cond b o (Some x) ≡ None → b ≡ true
-    by_test true o x h = refl
-    by_test false o x h = cc
+same_count d e fs gs h = grind (arith, nat_tests)
 
 -- the ends are in range
 pub ends_between : (ps qs : List Point) → length ps ≡ length qs → All IsResting qs → Ends ps (ending_at ps qs)

@@ -1,5 +1,5 @@
 -- What two frames in memory come to.
-use Rattle.std.proofs.Common.{◌≡◌, ℕ, List, [], ◌∷◌, Some, None, IfSome, unwrap_or, refl, sym, ap, subst, ◌∙◌}
+use Rattle.std.proofs.Common.{arith, ◌≡◌, ℕ, List, [], ◌∷◌, Some, None, IfSome, unwrap_or, refl, sym, ap, subst, ◌∙◌}
 use Rattle.std.proofs.lemmas.List.{append-nil}
 use Rattle.hosts.specs.Events.{Printed, printed, stored}
 use Rattle.hosts.specs.Memory.{Remembers}
@@ -11,22 +11,17 @@ use Rattle.hosts.proofs.Writing.{printed-writes, stored-writes}
 use Rattle.step.specs.Steps.{Step}
 use Rattle.frames.specs.Frames.{Frames, text_of, points_of, step_between}
 use Rattle.frames.specs.Memory.{frames_in}
-use Rattle.frames.specs.Outcomes.{Outcome, outcome, with_line_feed, stored_first, writes_of}
+use Rattle.frames.specs.Outcomes.{Outcome, outcome, with_line_feed, writes_of}
 use Rattle.frames.specs.Works.{same_file, ReadsFrames, EndsAs}
 use Rattle.frames.specs.declared.frame_files.FrameFile.{FrameFile}
 use Rattle.frames.specs.declared.frame_files.Recording.{Recording}
 use Rattle.frames.specs.declared.memory.FrameTexts.{FrameTexts}
 
 printed-writes_of : (o : Outcome) → printed {F = FrameFile} (writes_of o) ≡ with_line_feed o.line
-printed-writes_of o =
-    elim o.record_stored as (λ b. printed {F = FrameFile} (stored_first b (Printed (with_line_feed o.line) ∷ [])) ≡ with_line_feed o.line) [
-      | None ↦ append-nil (with_line_feed o.line)
-      | Some bytes ↦ append-nil (with_line_feed o.line)
-    ]
+printed-writes_of o = grind (arith, append-nil)
 
 stored-writes_of : (o : Outcome) → stored {F = FrameFile} (writes_of o) ≡ unwrap_or o.record_stored []
-stored-writes_of o =
-    elim o.record_stored as (λ b. stored {F = FrameFile} (stored_first b (Printed (with_line_feed o.line) ∷ [])) ≡ unwrap_or b []) [ None ↦ refl | Some bytes ↦ append-nil bytes ]
+stored-writes_of o = grind (arith, append-nil)
 
 abbrev texts_left : FrameTexts → FrameFile → List ℕ
 texts_left t = text_of (frames_in t)
@@ -47,6 +42,3 @@ module _ (m n : Memory FrameTexts) (came : Recording) (run : Finished (Remembers
   record_shown lent empty =
       subst (λ t. Shows lent t n.stored.now) (sym (stored-writes run.events) ∙ ap stored ends.writes ∙ stored-writes_of (outcome (frames_in m.files)))
       (stored_shown same_file texts_left m n run.events run.went lent [] empty)
-
-  pub meant : IfSome (outcome (frames_in m.files)).record_stored (λ bs. Step (points_of m.files.start.now) bs (step_between (frames_in m.files)))
-  meant = ends.means

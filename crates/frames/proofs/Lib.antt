@@ -3,5 +3,4 @@ pub mod Between
 pub mod Texts
 pub mod Endings
 pub mod Runs
-pub mod Paths
 pub mod InMemory

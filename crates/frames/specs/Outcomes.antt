@@ -1,5 +1,6 @@
 -- What comes of two frames: a fault or a difference is told; else the record is stored and told.
-use Rattle.std.specs.Prelude.{ℕ, List, [], ◌∷◌, ◌++◌, length, codes, Some, None, Option}
+use Rattle.std.specs.Prelude.{ℕ, List, [], ◌∷◌, ◌++◌, length, codes, map, Some, None, Option}
+use Rattle.std.specs.Option.{option_to_list}
 use Rattle.hosts.specs.Events.{Event, Printed, Stored}
 use Rattle.sheet.specs.Notices.{fault_line}
 use Rattle.sheet.specs.declared.notices.Notice.{Notice}
@@ -56,13 +57,9 @@ outcome f =
 abbrev pub with_line_feed : List ℕ → List ℕ
 with_line_feed line = line ++ codes "\n"
 
-abbrev pub stored_first : {F : Type 0} → Option (List ℕ) → List (Event F) → List (Event F)
-stored_first None later = later
-stored_first (Some bytes) later = Stored bytes ∷ later
-
 -- the record by one call, and then the line
 abbrev pub writes_of : {F : Type 0} → Outcome → List (Event F)
-writes_of o = stored_first o.record_stored (Printed (with_line_feed o.line) ∷ [])
+writes_of o = map Stored (option_to_list o.record_stored) ++ Printed (with_line_feed o.line) ∷ []
 
 -- ---- which files are needed; after a fault no more
 abbrev pub files_after : Option Notice → List FrameFile → List FrameFile

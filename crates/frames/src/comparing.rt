@@ -58,6 +58,7 @@ fn same_face(face: Face, other: Face) -> bool
 }
 
 /// Gives each point the end at which the same row of another frame starts.
+#[tactic(auto, using(crate::proofs::FrameLaws::ending_more))]
 pub fn end_at(points: &mut [Point], frame: &[Point])
     ensures { points.new ≡ ending_at points.old frame.now }
 {

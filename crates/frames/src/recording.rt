@@ -19,7 +19,7 @@ use step::write;
 
 /// Reads two frames and records the step between them: stores its record, and prints the line that
 /// tells it. Where a frame has a fault, or they differ, it prints the line that tells this instead.
-#[tactic(auto, using(crate::proofs::Paths::first_not_read, crate::proofs::Paths::first_faulty, crate::proofs::Paths::second_not_read, crate::proofs::Paths::second_faulty, crate::proofs::Paths::both_read))]
+#[tactic(auto, using(crate::proofs::Runs::first_not_read, crate::proofs::Runs::first_faulty, crate::proofs::Runs::second_not_read, crate::proofs::Runs::second_faulty, crate::proofs::Runs::both_read))]
 pub fn record_step<H: Host<File = FrameFile>>(
     tables: &mut Tables,
     host: &mut H,
@@ -85,7 +85,7 @@ fn record_between<H: Host>(
 }
 
 /// Stores the record of these rows, which are the draft's points, and then tells it.
-#[tactic(auto, using(hosts::proofs::Writing::store_stops))]
+#[tactic(auto, using(hosts::proofs::Writing::store_cut))]
 fn record_rows<H: Host>(
     draft: &Draft,
     rows: &[Point],
@@ -105,6 +105,7 @@ fn record_rows<H: Host>(
 }
 
 /// The record of these rows, which are the draft's points, written into the buffer.
+#[tactic(auto, using(std::proofs::lemmas::Grind::common_steps, step::proofs::LongestRecord::rows_most))]
 fn record_in<'a>(draft: &Draft, rows: &[Point], buffer: &'a mut [u8]) -> &'a [u8]
     requires all { length rows.now ≡ draft.now.points }
     requires few { length rows.now ≤ point_limit }

@@ -13,7 +13,7 @@ use hosts::Host;
 use sheet::SheetFault;
 
 /// Prints a line, and answers what came.
-#[tactic(auto, using(hosts::proofs::Writing::print_stops))]
+#[tactic(auto, using(hosts::proofs::Writing::print_cut))]
 pub(crate) fn tell<H: Host>(
     line: &str,
     came: Recording,

@@ -1,8 +1,8 @@
+pub mod Continuing
 pub mod Fronts
 pub mod Histories
 pub mod Printing
 pub mod Ran
 pub mod Remembering
 pub mod Showing
-pub mod Working
 pub mod Writing

@@ -6,7 +6,7 @@ use Rattle.std.proofs.lemmas.List.Concat.{flat_map-append}
 use Rattle.hosts.specs.Events.{Event, Printed, printed, printed_by, Call, Printing}
 use Rattle.hosts.specs.Traces.{nothing, next, CutOff}
 use Rattle.hosts.specs.Works.{IsPrint, IsPrintedInPart, Stopped, Prints}
-use Rattle.hosts.proofs.Working.{worked_after, cut_stops}
+use Rattle.hosts.proofs.Continuing.{worked_after, cut_stops}
 
 module _ {S F E : Type 0} (does : S → Event F → S → Type 0) (fails : S → Call F → E → S → Type 0) where
   -- one call

@@ -3,7 +3,7 @@ use Rattle.std.proofs.Common.{◌≡◌, List, [], ◌∷◌, ◌++◌, ℕ, Ok,
 use Rattle.hosts.specs.Events.{Event, Read, Printed, Stored, Call, Printing, Storing, files_read, printed, stored}
 use Rattle.hosts.specs.Traces.{nothing, next, CutOff}
 use Rattle.hosts.specs.Writing.{BeganTo, at_none, in_a_print, in_a_store, after_print, after_store, IsWrittenInPart, Writes, writes}
-use Rattle.hosts.proofs.Working.{worked_after, cut_stops}
+use Rattle.hosts.proofs.Continuing.{worked_after, cut_stops}
 
 module _ {F : Type 0} where
   -- what is begun reads nothing
@@ -44,19 +44,13 @@ module _ {S F E : Type 0} (does : S → Event F → S → Type 0) (fails : S →
         worked_after does fails _ _ _ _ s t u (Stored bytes ∷ []) r (next (Stored bytes) nothing d)
         (λ es x w. record { writes = λ i. Stored bytes ∷ w.writes i; answers = w.answers }) (λ es call w. record { part = after_store bytes w.part; no_read = w.no_read })
 
-    pub print_cut : (t : S) (bytes : List ℕ) (e : E) → CutOff does fails s Printed Printing bytes e t → Writes does fails (Printed bytes ∷ all) answer s (Err e) t
-    print_cut t bytes e =
-        cut_stops does fails (IsWrittenInPart (Printed bytes ∷ all)) s t Printed Printing bytes e
-        (λ front rest parts. record { part = subst (λ bs. BeganTo (Printed bs ∷ all) (Printed front ∷ [])) (sym parts) (in_a_print front rest); no_read = refl })
+    -- a call that is cut off, and its error is answered
+    pub print_cut : (t : S) (bytes text : List ℕ) (e : E) (r : Result X E) → CutOff does fails s Printed Printing bytes e t → bytes ≡ text → r ≡ Err e → Writes does fails (Printed text ∷ all) answer s r t
+    print_cut t bytes text e r cut is failed =
+        rw (← is, failed)
+        (cut_stops does fails (IsWrittenInPart (Printed bytes ∷ all)) s t Printed Printing bytes e (λ front rest parts. record { part = rw parts (in_a_print front rest); no_read = refl }) cut)
 
-    pub store_cut : (t : S) (bytes : List ℕ) (e : E) → CutOff does fails s Stored Storing bytes e t → Writes does fails (Stored bytes ∷ all) answer s (Err e) t
-    store_cut t bytes e =
-        cut_stops does fails (IsWrittenInPart (Stored bytes ∷ all)) s t Stored Storing bytes e
-        (λ front rest parts. record { part = subst (λ bs. BeganTo (Stored bs ∷ all) (Stored front ∷ [])) (sym parts) (in_a_store front rest); no_read = refl })
-
-    -- cut off, and the error is answered
-    pub print_stops : (t : S) (bytes text : List ℕ) (e : E) (r : Result X E) → CutOff does fails s Printed Printing bytes e t → bytes ≡ text → r ≡ Err e → Writes does fails (Printed text ∷ all) answer s r t
-    print_stops t bytes text e r cut is failed = rw (← is, failed) (print_cut t bytes e cut)
-
-    pub store_stops : (t : S) (bytes whole : List ℕ) (e : E) (r : Result X E) → CutOff does fails s Stored Storing bytes e t → bytes ≡ whole → r ≡ Err e → Writes does fails (Stored whole ∷ all) answer s r t
-    store_stops t bytes whole e r cut is failed = rw (← is, failed) (store_cut t bytes e cut)
+    pub store_cut : (t : S) (bytes whole : List ℕ) (e : E) (r : Result X E) → CutOff does fails s Stored Storing bytes e t → bytes ≡ whole → r ≡ Err e → Writes does fails (Stored whole ∷ all) answer s r t
+    store_cut t bytes whole e r cut is failed =
+        rw (← is, failed)
+        (cut_stops does fails (IsWrittenInPart (Stored bytes ∷ all)) s t Stored Storing bytes e (λ front rest parts. record { part = rw parts (in_a_store front rest); no_read = refl }) cut)

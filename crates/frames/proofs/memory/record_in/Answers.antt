@@ -1,3 +1,5 @@
+use Rattle.frames.specs.Memory.{frames_in}
+use Rattle.frames.proofs.Endings.{means}
 use Rattle.frames.proofs.InMemory.{line_shown, record_shown}
 use Rattle.frames.proofs.memory.record_in.Goals as goal
 
@@ -6,3 +8,6 @@ returns-clause-line c = line_shown c.args.memory.now c.record_step.new.host c.in
 
 pub returns-clause-kept : goal.returns-clause-kept
 returns-clause-kept c = record_shown c.args.memory.now c.record_step.new.host c.in-Ok.answer c.in-Ok.ensures
+
+pub returns-clause-means : goal.returns-clause-means
+returns-clause-means c = means (frames_in c.args.memory.now.files)

@@ -1,4 +1,4 @@
--- Works that come to more than their own events.
+-- Works that go on after others, and a work that ends where a call is cut off.
 use Rattle.std.proofs.Common.{◌≡◌, ℕ, List, [], ◌∷◌, ◌++◌, Ok, Err, Result}
 use Rattle.hosts.specs.Events.{Event, Call}
 use Rattle.hosts.specs.Traces.{Went, nothing, next, CutOff}
