@@ -1,31 +1,186 @@
 -- A run over a host, file by file.
-use Rattle.std.proofs.Common.{◌≡◌, ℕ, ◌+◌, ◌≤◌, false, List, [], ◌∷◌, ◌++◌, All, length, take, replicate, Some, None, Err, Result, IfOk, refl, sym, ap, ◌∙◌, subst}
-use Rattle.std.proofs.lemmas.List.Elements.{All-cons, All-nil}
-use Rattle.hosts.specs.Events.{Event, Read, Call, Reading, files_read}
-use Rattle.hosts.specs.Traces.{nothing, next}
-use Rattle.hosts.specs.Works.{Ran, Prints, unread_by}
-use Rattle.hosts.proofs.Working.{ran_after, ran_none}
+use Rattle.std.proofs.Common.{◌≡◌, ℕ, ◌+◌, ◌≤◌, true, false, if◌then◌else◌, List, [], ◌∷◌, ◌++◌, All, length, take, drop, Some, None, Result, nat_lt, sym, ap, ◌∙◌, arith, append-nil, Ok, Err, IfOk, refl, replicate, subst}
+use Rattle.std.proofs.Math.Seq.{take-append_seam, take-length}
+use Rattle.std.proofs.lemmas.Bool.{le-ltb}
+use Rattle.std.proofs.lemmas.List.Elements.{All-cons, All-nil, All-head, All-tail}
+use Rattle.std.proofs.lemmas.List.Sums.{sum_by-cons}
+use Rattle.hosts.specs.Events.{Event, Read, Call, files_read, asked, came, asked_by, Reading, printed, stored, unread}
+use Rattle.hosts.specs.Works.{unread_by, Ran, Prints}
+use Rattle.hosts.proofs.Histories.{not_asked, not_came}
 use Rattle.sheet.specs.Checks.{first_fit}
 use Rattle.sheet.specs.Lines.{numbered}
 use Rattle.sheet.specs.Sheet.{text_limit, point_limit, face_limit, sheet_checks, draft_of, points_in, faces_in, onto_front}
 use Rattle.sheet.specs.declared.drafts.Draft.{Draft}
-use Rattle.sheet.specs.declared.notices.Notice.{Notice}
 use Rattle.sheet.specs.declared.rows.Point.{Point}
 use Rattle.sheet.specs.declared.rows.Face.{Face}
-use Rattle.step.specs.Laying.{lay_checks, with_ends}
+use Rattle.sheet.proofs.Fronts as text_front
+use Rattle.step.specs.Faults.{place}
+use Rattle.step.specs.Laying.{check, lay_checks, rows_checks, with_ends}
 use Rattle.step.specs.Limit.{record_limit}
-use Rattle.printout.specs.Outcomes.{same_file, ReadsPlan, Inspects}
-use Rattle.printout.specs.Phases.{Comes, NotRead, HoldsSheet, after_sheet, AfterSheet, HoldsPlan, AfterStep}
-use Rattle.printout.specs.Plans.{Plan, sheet_fault, step_fault, or_else, files_after, needed}
-use Rattle.printout.specs.Printouts.{notice_line}
-use Rattle.printout.specs.Progress.{TellsText}
+use Rattle.step.proofs.Fronts as record_front
+use Rattle.step.proofs.LayAnswers.{length_with_ends}
+use Rattle.inspection.specs.Sheets.{sheet_of}
+use Rattle.printout.specs.Outcomes.{same_file, EndsWith, StopsWith, ReadsPlan, Inspects}
+use Rattle.printout.specs.Plans.{Plan, sheet_fault, step_fault, or_else, draft, resting_points, fault, printout, printout_by, sheet, files_after, needed}
 use Rattle.printout.specs.declared.endings.Ending.{Ending}
-use Rattle.printout.specs.declared.endings.Ending.TheVariants.{Faulty}
 use Rattle.printout.specs.declared.plan_files.PlanFile.{PlanFile}
-use Rattle.printout.specs.declared.plan_files.PlanFile.TheVariants.{Sheet, Step, Pairs}
-use Rattle.printout.proofs.Phases.{Settles, settles, comes_faulty, comes_unread, comes_after}
-use Rattle.printout.proofs.Rows.{first_bytes, sheet_fault_of, holds_sheet, step_fault_of, holds_plan}
-use Rattle.printout.proofs.Telling.{told_print}
+use Rattle.hosts.proofs.Fronts.{front_of}
+use Rattle.sheet.specs.declared.notices.Notice.{Notice}
+use Rattle.inspection.specs.PairBytes.{offers_in}
+use Rattle.motion.specs.Rows.{delivered}
+use Rattle.printout.specs.Printouts.{notice_line}
+use Rattle.printout.specs.Progress.{◌⊕◌, told_by, LeavesUntold, TellsText, FitsFile, NotRead, HoldsSheet, HoldsPlan, plan_told, Ends, Comes, after_sheet, AfterSheet, AfterStep}
+use Rattle.printout.specs.Walks.{just_opened, walked, refusal_lines}
+use Rattle.printout.specs.declared.endings.Ending.TheVariants.{Complete, Faulty}
+use Rattle.printout.specs.declared.plan_files.PlanFile.TheVariants.{Pairs, Sheet, Step}
+use Rattle.printout.proofs.Telling.{told_nothing, never_reads, told_print}
+use Rattle.hosts.specs.Traces.{nothing, next}
+use Rattle.hosts.proofs.Working.{ran_after, ran_none}
+
+front_all : {X : Type 0} (P : X → Type 0) (xs ys : List X) → All P (xs ++ ys) → All P xs
+front_all P [] ys all = All-nil P
+front_all P (x ∷ xs) ys all = All-cons P x xs (All-head P x (xs ++ ys) all) (front_all P xs ys (All-tail P x (xs ++ ys) all))
+
+-- a file that is read once has given its first bytes
+pub first_bytes : (f : PlanFile) (size : ℕ) (bytes file : List ℕ) (es : List (Event PlanFile)) (how : Result Ending (Call PlanFile)) → same_file f f ≡ true → NotRead f es how
+    → FitsFile f file (Read f size bytes ∷ es) → bytes ≡ take size file
+first_bytes f size bytes file es how itself later fits =
+    let none = front_all (λ g. same_file f g ≡ false) (files_read es) (unread_by how) later in
+    let all_came : came (same_file f) (Read f size bytes ∷ es) ≡ bytes =
+    (λ i. (if itself i then bytes else []) ++ not_came (same_file f) es none i) ∙ append-nil bytes in
+    let all_asked : asked (same_file f) (Read f size bytes ∷ es) ≡ size =
+    sum_by-cons (asked_by (same_file f)) (Read f size bytes) es ∙ ap (λ b. (if b then size else 0) + asked (same_file f) es) itself ∙ omega (arith, not_asked (same_file f) es none) in
+    sym all_came ∙ fits ∙ ap (λ n. take n file) all_asked
+
+front : {X : Type 0} (rows table : List X) (n : ℕ) → n ≡ length rows → take n (onto_front rows table) ≡ rows
+front rows table n e = ap (λ k. take k (onto_front rows table)) e ∙ take-append_seam rows (drop (length rows) table)
+
+-- ---- the sheet's text, to one byte past the limit
+module _ (p : Plan) (size : ℕ) (text : List ℕ) (limit : size ≡ text_limit + 1) (is : text ≡ take size p.sheet) where
+  here : text ≡ take (text_limit + 1) p.sheet
+  here = is ∙ ap (λ n. take n p.sheet) limit
+
+  pub sheet_fault_of : first_fit (sheet_checks text point_limit face_limit) ≡ sheet_fault p
+  sheet_fault_of = ap (λ t. first_fit (sheet_checks t point_limit face_limit)) here ∙ text_front.front_decides p.sheet point_limit face_limit
+
+  pub holds_sheet : (d : Draft) (ps : List Point) (fs : List Face) → None ≡ first_fit (sheet_checks text point_limit face_limit) → d ≡ draft_of text
+      → HoldsSheet p d (onto_front (points_in (numbered text)) ps) (onto_front (faces_in (numbered text)) fs)
+  holds_sheet d ps fs none is_draft =
+      let no_fault : sheet_fault p ≡ None = sym sheet_fault_of ∙ sym none in
+      let all : text ≡ p.sheet = here ∙ text_front.front_is_whole p.sheet point_limit face_limit no_fault in
+      record {
+        no_fault = no_fault;
+        draft = is_draft ∙ ap draft_of all;
+        points = front (points_in (numbered text)) ps d.points (ap (λ (k : Draft). k.points) is_draft) ∙ ap (λ t. points_in (numbered t)) all;
+        faces = front (faces_in (numbered text)) fs d.faces (ap (λ (k : Draft). k.faces) is_draft) ∙ ap (λ t. faces_in (numbered t)) all;
+      }
+
+-- ---- the step's record, to one byte past the limit
+module _ (p : Plan) (d : Draft) (ps : List Point) (fs : List Face) (h : HoldsSheet p d ps fs) (room : d.points ≤ length ps) (few : d.points ≤ point_limit)
+    (size : ℕ) (bytes : List ℕ) (limit : size ≡ record_limit + 1) (is : bytes ≡ take size p.step) where
+  many : d.points ≡ length (resting_points p)
+  many = ap (λ (k : Draft). k.points) h.draft
+
+  -- the table's further rows say nothing
+  same_rows : (bs : List ℕ) → first_fit (lay_checks d.points ps bs) ≡ first_fit (lay_checks (draft p).points (resting_points p) bs)
+  same_rows bs =
+      let n = length (resting_points p) in
+      let a : nat_lt (length ps) d.points ≡ false = le-ltb (length ps) d.points room in
+      let b : nat_lt n n ≡ false = le-ltb n n (omega arith) in
+      ap (λ x. if x then Some (check true 13 (place 0 0)).tells else first_fit (rows_checks 0 (take d.points ps) bs)) a
+      ∙ ap (λ l. first_fit (rows_checks 0 l bs)) (h.points ∙ sym (take-length (resting_points p)))
+      ∙ ap (λ x. if x then Some (check true 13 (place 0 0)).tells else first_fit (rows_checks 0 (take n (resting_points p)) bs)) (sym b)
+
+  pub step_fault_of : first_fit (lay_checks d.points ps bytes) ≡ step_fault p
+  step_fault_of =
+      ap (λ b. first_fit (lay_checks d.points ps b)) is ∙ record_front.front_decides d.points ps size p.step (omega (arith, limit, few)) ∙ same_rows p.step
+
+  pub holds_plan : None ≡ first_fit (lay_checks d.points ps bytes) → HoldsPlan p d (onto_front (with_ends (take d.points ps) bytes) ps) fs
+  holds_plan none =
+      let no_step : step_fault p ≡ None = sym step_fault_of ∙ sym none in
+      let whole : bytes ≡ p.step = is ∙ record_front.front_is_whole d.points ps size p.step (omega (arith, limit, few)) (same_rows p.step ∙ no_step) in
+      let rows = with_ends (take d.points ps) bytes in
+      let count : d.points ≡ length rows = many ∙ ap length (sym h.points) ∙ sym (length_with_ends (take d.points ps) bytes) in
+      record {
+        no_fault = (λ i. or_else (h.no_fault i) (no_step i));
+        draft = h.draft;
+        sheet = (λ i. sheet_of ((front rows ps d.points count ∙ (λ j. with_ends (h.points j) (whole j))) i) (h.faces i));
+      }
+
+module _ (p : Plan) (needed_in : ℕ → List PlanFile) where
+  -- ---- a whole run to its end, and one that a call stops
+  abbrev pub Settles : List (Event PlanFile) → Result Ending (Call PlanFile) → Type 0
+  Settles es (Ok end) = EndsWith p needed_in es end
+  Settles es (Err call) = StopsWith p needed_in es call
+
+  pub settles : (es : List (Event PlanFile)) (how : Result Ending (Call PlanFile)) → Comes p needed_in es how → Settles es how
+  settles es (Ok end) c =
+      let all = c.parts ∙ ap (λ r. told_by es ⊕ r) c.ends.told ∙ told_nothing (told_by es) in
+      record {
+        text = sym (ap (λ l. l.text) all);
+        stored = sym (ap (λ l. l.stored) all);
+        ending = c.ends.ending;
+        complete = c.ends.complete;
+        pieces = c.pieces;
+        files = sym (c.files ∙ (λ i. append-nil (files_read es) i ++ c.ends.read i) ∙ append-nil (files_read es));
+        claim = c.ends.claim;
+      }
+  settles es (Err call) c =
+      record {
+        text = front_of (printed es) c.rest.text (printout p).text (ap (λ l. l.text) c.parts);
+        stored = front_of (stored es) c.rest.stored (printout p).stored (ap (λ l. l.stored) c.parts);
+        pieces = c.pieces;
+        files = front_of (files_read es ++ unread call) c.later (needed_in c.pieces) c.files;
+        told = λ f is. c.told f (ap unread is);
+      }
+
+  -- ---- the line of a fault is printed after the file that has it
+  pub comes_faulty : (n : Notice) → fault p ≡ Some n → (f : PlanFile) (size : ℕ) (bytes : List ℕ) → needed_in 0 ≡ f ∷ [] → (es : List (Event PlanFile)) (how : Result Ending (Call PlanFile))
+      → TellsText (notice_line n) (λ end. end ≡ Faulty) es how → Comes p needed_in (Read f size bytes ∷ es) how
+  comes_faulty n is f size bytes last es how (told, faulty) =
+      record {
+        rest = told.rest;
+        parts = ap (λ o. record { text = o.text; stored = o.stored }) made ∙ told.parts;
+        pieces = 0;
+        later = [];
+        files = last ∙ sym (append-nil (f ∷ files_read es ++ unread_by how) ∙ ap (λ l. f ∷ l) told.files);
+        ends = ends how faulty told.untold;
+        told = λ g stopped. absurd (never_reads es how g told.files stopped);
+      }
+    where
+      made : printout p ≡ printout_by p (Some n)
+      made = ap (printout_by p) is
+
+      ends : (how : Result Ending (Call PlanFile)) → IfOk how (λ end. end ≡ Faulty) → LeavesUntold how told.rest → IfOk how (Ends p told.rest [])
+      ends (Err call) faulty untold = tt
+      ends (Ok end) faulty untold =
+          record {
+            told = untold;
+            read = refl;
+            ending = faulty ∙ ap (λ o. o.ending) (sym made);
+            complete = (λ c. let e : Faulty ≡ Complete = sym faulty ∙ c in cc, λ none. let e : Some n ≡ None = sym is ∙ none in cc);
+            claim = λ none. let e : Some n ≡ None = sym is ∙ none in cc;
+          }
+
+  -- ---- its first file can't be read
+  pub comes_unread : (f : PlanFile) (later : List PlanFile) → needed_in 0 ≡ f ∷ later → Comes p needed_in [] (Err (Reading f))
+  comes_unread f later first = record { rest = plan_told p; parts = refl; pieces = 0; later = later; files = first; ends = tt; told = λ g is. refl }
+
+  -- ---- a file is read, and then all goes as it may
+  pub comes_after : (f : PlanFile) (size : ℕ) (bytes : List ℕ) (before : ℕ → List PlanFile) → ((n : ℕ) → before n ≡ f ∷ needed_in n) → same_file Pairs f ≡ false
+      → (es : List (Event PlanFile)) (how : Result Ending (Call PlanFile)) → Comes p needed_in es how → Comes p before (Read f size bytes ∷ es) how
+  comes_after f size bytes before more other es how c =
+      record {
+        rest = c.rest;
+        parts = c.parts;
+        pieces = c.pieces;
+        later = c.later;
+        files = more c.pieces ∙ ap (λ l. f ∷ l) c.files;
+        ends = c.ends;
+        told = λ g is.
+            c.told g is
+            ∙ ap (λ b. refusal_lines (walked delivered (sheet p) (just_opened (draft p)) (offers_in ((if b then bytes else []) ++ came (same_file Pairs) es)))) (sym other);
+      }
 
 -- what reads nothing does not read this file
 not_read : (f : PlanFile) (es : List (Event PlanFile)) (how : Result Ending (Call PlanFile)) → files_read es ++ unread_by how ≡ [] → NotRead f es how

@@ -28,9 +28,8 @@ use Rattle.inspection.specs.PairBytes.{offers_in}
 use Rattle.report.specs.Faults.{place_of}
 use Rattle.report.specs.Reports.{View, check, checks_from, entry_checks, entry_limit, len_checks, numbered, report_text}
 use Rattle.printout.specs.Outcomes.{same_file}
-use Rattle.printout.specs.Phases.{plan_told, Ends, Comes, FitsFile, HoldsPlan, AfterStep}
 use Rattle.printout.specs.Plans.{Plan, printout, printout_by, sheet, draft, walk, report_of, ClaimOfPlan}
-use Rattle.printout.specs.Progress.{Lists, Made, Begins, Reportable, only_text, nothing_told, ◌⊕◌, told_by, told_of, LeavesUntold, Tells, TellsText, pairs_came, CameTo, TellsFile, OfferedFile, OffersFile}
+use Rattle.printout.specs.Progress.{Lists, Made, Begins, Reportable, only_text, nothing_told, ◌⊕◌, told_by, told_of, LeavesUntold, Tells, TellsText, pairs_came, CameTo, TellsFile, OfferedFile, OffersFile, plan_told, Ends, Comes, FitsFile, HoldsPlan, AfterStep}
 use Rattle.printout.specs.Walks.{Walk, Found, depth, places, just_opened, offered, walked, refusal_lines, refused_pairs}
 use Rattle.printout.specs.declared.endings.Ending.{Ending}
 use Rattle.printout.specs.declared.endings.Ending.TheVariants.{Complete}
@@ -77,6 +76,13 @@ made_none d s o core vf ee ps fs rows =
           inside = subst (All (λ e. IsTrue (n.inside sheet e))) (sym none) (All-nil (λ e. IsTrue (n.inside sheet e)));
         }
 
+-- what is reported of a state
+abbrev pub view : List Point → List Face → State → View
+view ps fs t = record { set = delivered; core = t.core; sheet = sheet_in t.core.draft ps fs; lacks_rows = lacks_rows t.core.draft ps fs }
+
+abbrev pub report_in : List Point → List Face → State → List ℕ
+report_in ps fs t = report_text (view ps fs t) t.vf.entries t.ee.entries
+
 -- ---- of a plan that the tables hold
 module _ (p : Plan) (d : Draft) (ps : List Point) (fs : List Face) (h : HoldsPlan p d ps fs) where
   abbrev over : List Offering → Walk
@@ -115,45 +121,31 @@ module _ (p : Plan) (d : Draft) (ps : List Point) (fs : List Face) (h : HoldsPla
       }
 
   -- and then the report is printed
-  module _ (es : List (Event PlanFile)) (told : TellsFile {X = Unit {0}} (just_opened d) (over (pairs_came es)) es (Ok tt)) (last : told.is_last ≡ true) (t : State) (m : Made delivered d ps fs (over (pairs_came es)) t) where
-    abbrev report : List ℕ
-    report = report_text (record { set = delivered; core = t.core; sheet = sheet_in t.core.draft ps fs; lacks_rows = lacks_rows t.core.draft ps fs }) t.vf.entries t.ee.entries
-
+  module _ (es gs : List (Event PlanFile)) (how : Result Ending (Call PlanFile)) (t : State) (m : Made delivered d ps fs (over (pairs_came es)) t) where
     same_sheet : sheet_in t.core.draft ps fs ≡ sheet p
     same_sheet = ap (λ k. sheet_in k ps fs) m.draft ∙ h.sheet
 
-    same_report : report ≡ report_of p (over (pairs_came es)).found
+    same_report : report_in ps fs t ≡ report_of p (over (pairs_came es)).found
     same_report = λ i. report_text (record { set = delivered; core = (m.found i).core; sheet = same_sheet i; lacks_rows = m.rows i }) (m.found i).vf (m.found i).ee
 
-    pub comes_reported : (gs : List (Event PlanFile)) (how : Result Ending (Call PlanFile)) → TellsText report (λ end. (end ≡ Complete) × Findings delivered t) gs how
-        → FitsFile Pairs p.pairs (es ++ gs) → Comes p (λ n. replicate n Pairs) (es ++ gs) how
-    comes_reported gs how print fits =
+    pub comes_reported : CameTo true es → (n : ℕ) (told : Tells n nothing_told (told_of (over (pairs_came es)) ⊕ only_text (report_in ps fs t)) (es ++ gs) how) → files_read gs ++ unread_by how ≡ []
+        → IfOk how (λ end. (end ≡ Complete) × Findings delivered t) → FitsFile Pairs p.pairs (es ++ gs) → Comes p (λ n. replicate n Pairs) (es ++ gs) how
+    comes_reported came n told quiet end fits =
         record {
-          rest = total.rest;
-          parts = all ∙ total.parts;
-          pieces = told.pieces + 0;
+          rest = told.rest;
+          parts = whole ∙ sym (λ i. told_of (whole_walk i) ⊕ only_text ((same_report ∙ ap (λ w. report_of p w.found) whole_walk) i)) ∙ told.parts;
+          pieces = n;
           later = [];
-          files = sym (append-nil (files_read (es ++ gs) ++ unread_by how) ∙ total.files);
-          ends = ends how total.untold print.1;
-          told = λ f is. absurd (never_reads gs how f print.0.files is);
+          files = sym (append-nil (files_read (es ++ gs) ++ unread_by how) ∙ told.files);
+          ends = ends how told.untold end;
+          told = λ f is. absurd (never_reads gs how f quiet is);
         }
       where
-        none : All (λ f. same_file Pairs f ≡ false) (files_read gs)
-        none = none_of (λ f. same_file Pairs f ≡ false) (files_read gs) (unread_by how) print.0.files
-
-        came_whole : p.pairs ≡ came (same_file Pairs) es
-        came_whole = (subst (λ b. CameTo b es) last told.came) p.pairs (sym (came_quiet es gs none) ∙ fits ∙ ap (λ n. take n p.pairs) (asked_quiet es gs none))
-
         whole_walk : over (pairs_came es) ≡ walk p
-        whole_walk = same_walk (pairs_came es) ∙ ap (λ bytes. walked delivered (sheet p) (just_opened (draft p)) (offers_in bytes)) (sym came_whole)
-
-        all : plan_told p ≡ told_of (over (pairs_came es)) ⊕ only_text report
-        all = whole ∙ sym (λ i. told_of (whole_walk i) ⊕ only_text ((same_report ∙ ap (λ w. report_of p w.found) whole_walk) i))
-
-        total : Tells (told.pieces + 0) nothing_told (told_of (over (pairs_came es)) ⊕ only_text report) (es ++ gs) how
-        total =
-            tells_then told.pieces 0 nothing_told (told_of (over (pairs_came es))) (told_of (over (pairs_came es)) ⊕ only_text report) es gs tt how told.tells
-            (tells_behind 0 (told_of (over (pairs_came es))) (only_text report) gs how print.0)
+        whole_walk =
+            let none = none_of (λ f. same_file Pairs f ≡ false) (files_read gs) (unread_by how) quiet in
+            let all = came p.pairs (sym (came_quiet es gs none) ∙ fits ∙ ap (λ n. take n p.pairs) (asked_quiet es gs none)) in
+            same_walk (pairs_came es) ∙ ap (λ bytes. walked delivered (sheet p) (just_opened (draft p)) (offers_in bytes)) (sym all)
 
         claim : Findings delivered t → ClaimOfPlan p
         claim found none =
@@ -161,7 +153,7 @@ module _ (p : Plan) (d : Draft) (ps : List Point) (fs : List Face) (h : HoldsPla
             (λ i. ((m.draft ∙ h.draft) i, same_sheet i, ap (λ w. w.accepted) whole_walk i, (m.found ∙ ap (λ w. w.found) whole_walk) i))
             (found t.core.draft (sheet_in t.core.draft ps fs) (over (pairs_came es)).accepted m.run)
 
-        ends : (how : Result Ending (Call PlanFile)) → LeavesUntold how total.rest → IfOk how (λ end. (end ≡ Complete) × Findings delivered t) → IfOk how (Ends p total.rest [])
+        ends : (how : Result Ending (Call PlanFile)) → LeavesUntold how told.rest → IfOk how (λ end. (end ≡ Complete) × Findings delivered t) → IfOk how (Ends p told.rest [])
         ends (Err call) untold found = tt
         ends (Ok end) untold (complete, found) =
             record { told = untold; read = refl; ending = complete ∙ ap (λ o. o.ending) (sym made); complete = (λ c. h.no_fault, λ none. complete); claim = claim found }
@@ -188,27 +180,27 @@ module _ {S E : Type 0} (does : S → Event PlanFile → S → Type 0) (fails : 
       (offers d (just_opened d) start)
 
   module _ (offers : OffersFile {X = Unit {0}} does fails delivered ps fs true s t h (Ok tt) m) where
-    pub reportable : Reportable (record { set = delivered; core = t.core; sheet = sheet_in t.core.draft ps fs; lacks_rows = lacks_rows t.core.draft ps fs }) t.vf.entries t.ee.entries
+    pub reportable : Reportable (view ps fs t) t.vf.entries t.ee.entries
     unfolding Reportable OffersFile
     reportable = let made = (offers d (just_opened d) start).good.1.1 in (made.rows, (made.vf.inside, made.ee.inside))
 
     pub ran : (r : Result Ending E) (k : S)
-        → Prints does fails (report_text (record { set = delivered; core = t.core; sheet = sheet_in t.core.draft ps fs; lacks_rows = lacks_rows t.core.draft ps fs }) t.vf.entries t.ee.entries) m r k
+        → Prints does fails (report_in ps fs t) m r k
         → IfOk r (λ end. end ≡ Complete) → OnOk r (Findings delivered t) → Ran does fails (AfterStep d ps fs) h r k
     unfolding OffersFile
     ran r k print complete found =
         let a = offers d (just_opened d) start in
         let told = a.good.0 in
         let w = walked delivered (sheet_in d ps fs) (just_opened d) (pairs_came a.events) in
-        let text = report_text (record { set = delivered; core = t.core; sheet = sheet_in t.core.draft ps fs; lacks_rows = lacks_rows t.core.draft ps fs }) t.vf.entries t.ee.entries in
-        ran_after does fails (AfterStep d ps fs) (TellsText text (λ end. (end ≡ Complete) × Findings delivered t)) h m k a.events a.went
+        let text = only_text (report_in ps fs t) in
+        ran_after does fails (AfterStep d ps fs) (TellsText (report_in ps fs t) (λ end. (end ≡ Complete) × Findings delivered t)) h m k a.events a.went
         (λ gs how report.
-        let total = tells_then told.pieces 0 nothing_told (told_of w) (told_of w ⊕ only_text text) a.events gs tt how told.tells (tells_behind 0 (told_of w) (only_text text) gs how report.0) in (
-          only_pairs SheetFile (told.pieces + 0) (files_read (a.events ++ gs) ++ unread_by how) refl total.files,
-          only_pairs StepFile (told.pieces + 0) (files_read (a.events ++ gs) ++ unread_by how) refl total.files,
-          λ p holds fits. comes_reported p d ps fs holds a.events told a.good.1.0 t a.good.1.1 gs how report fits,
+        let all = tells_then told.pieces 0 nothing_told (told_of w) (told_of w ⊕ text) a.events gs tt how told.tells (tells_behind 0 (told_of w) text gs how report.0) in (
+          only_pairs SheetFile (told.pieces + 0) (files_read (a.events ++ gs) ++ unread_by how) refl all.files,
+          only_pairs StepFile (told.pieces + 0) (files_read (a.events ++ gs) ++ unread_by how) refl all.files,
+          λ p holds. comes_reported p d ps fs holds a.events gs how t a.good.1.1 (subst (λ b. CameTo b a.events) a.good.1.0 told.came) (told.pieces + 0) all report.0.files report.1,
         ))
-        r (told_print does fails (λ end. (end ≡ Complete) × Findings delivered t) m k text r print (both r complete found))
+        r (told_print does fails (λ end. (end ≡ Complete) × Findings delivered t) m k (report_in ps fs t) r print (both r complete found))
       where
         both : (r : Result Ending E) → IfOk r (λ end. end ≡ Complete) → OnOk r (Findings delivered t) → IfOk r (λ end. (end ≡ Complete) × Findings delivered t)
         both (Ok end) complete found = (complete, found)
