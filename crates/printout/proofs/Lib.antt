@@ -1,6 +1,5 @@
 pub mod FileByFile
-pub mod Files
+pub mod FileOfPairs
 pub mod Kept
 pub mod Offers
-pub mod Reported
 pub mod Telling

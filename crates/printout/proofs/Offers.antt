@@ -31,7 +31,7 @@ use Rattle.hosts.specs.Events.{Event, Call}
 use Rattle.hosts.specs.Traces.{nothing}
 use Rattle.hosts.proofs.Working.{ran_after, ran_short}
 use Rattle.printout.specs.Printouts.{notice_line}
-use Rattle.printout.specs.Progress.{Lists, found_in, Made, Told, nothing_told, ◌⊕◌, told_of, refusal_told, Tells, Refuses, Offered, Offers}
+use Rattle.printout.specs.Progress.{Listed, found_in, Made, Told, nothing_told, ◌⊕◌, told_of, refusal_told, Tells, Refuses, TellsPairs, Offers}
 use Rattle.printout.specs.Walks.{Walk, places, pair_bytes, is_full, refusal, found_after, vf_after, ee_after, sorted_in, offered, walked, refusal_lines, refused_pairs}
 use Rattle.printout.specs.declared.plan_files.PlanFile.{PlanFile}
 use Rattle.printout.proofs.Telling.{told_nothing, told_assoc, quiet, tells_then, tells_behind, tells_short}
@@ -58,7 +58,7 @@ module _ (set : Shape → Bool) (ps : List Point) (fs : List Face) (o : Offering
 
   -- a list after an offer for which it has room
   lists_after : {E : Type 0} (n : Naming E) (list : Contents E) → let after = entries_by n set s.core.depth here o list.entries in
-      Lists n here list → All (λ e. IsTrue (n.inside here e)) (n.tests here o) → length list.entries ≤ length after → nat_lt places (length after) ≡ false → Lists n here (with_entries after list)
+      Listed n here list → All (λ e. IsTrue (n.inside here e)) (n.tests here o) → length list.entries ≤ length after → nat_lt places (length after) ≡ false → Listed n here (with_entries after list)
   lists_after n list l new more fits =
       let after = entries_by n set s.core.depth here o list.entries in
       record {
@@ -148,7 +148,7 @@ module _ {S E : Type 0} (does : S → Event PlanFile → S → Type 0) (fails : 
     offer_refused X h h' e n step why r work d w m =
         let sheet = sheet_in d ps fs in
         let is = ap (λ k. told_of (sorted_in set sheet w o k)) (sym (refuses set ps fs o s d w m (Err e) t step)) ∙ ap (λ k. told_of (sorted_in set sheet w o (Some k))) (sym why) ∙ told_refused set sheet w o n in
-        ran_after does fails (Offered set d ps fs w (o ∷ []) t) (Tells 0 nothing_told (refusal_told n o)) h h h' [] nothing
+        ran_after does fails (TellsPairs set d ps fs w (o ∷ []) t) (Tells 0 nothing_told (refusal_told n o)) h h h' [] nothing
         (λ es how told. (subst (λ k. Tells 0 (told_of w) k es how) (sym is) (tells_behind 0 (told_of w) (refusal_told n o) es how told), if_ok (made set ps fs o s d w m (Err e) t step) how))
         r work
 
@@ -163,7 +163,7 @@ module _ {S E : Type 0} (does : S → Event PlanFile → S → Type 0) (fails : 
       let sheet = sheet_in d ps fs in
       let v = walked set sheet w os in
       let a = first d w m in
-      ran_after does fails (Offered set d ps fs w (os ++ more) u) (Offered set d ps fs v more u) h i j a.events a.went
+      ran_after does fails (TellsPairs set d ps fs w (os ++ more) u) (TellsPairs set d ps fs v more u) h i j a.events a.went
       (λ es how b.
       subst (λ k. Tells 0 (told_of w) (told_of k) (a.events ++ es) how × IfOk how (λ x. Made set d ps fs k u)) (sym (fold-append (offered set sheet) w os more))
       (tells_then 0 0 (told_of w) (told_of v) (told_of (walked set sheet v more)) a.events es tt how a.good.0 b.0, b.1))
@@ -180,6 +180,6 @@ module _ {S E : Type 0} (does : S → Event PlanFile → S → Type 0) (fails : 
       let on = goes_on set sheet before later in
       let pairs : all ≡ tried ++ later = parts ∙ sym (append_assoc os (o ∷ []) later) in
       let end = ap (λ l. told_of (walked set sheet w l)) pairs ∙ ap told_of (fold-append (offered set sheet) w tried later) ∙ on.1 in
-      ran_short does fails (Offered set d ps fs w all v) (Offered set d ps fs w tried u) h j e r is
+      ran_short does fails (TellsPairs set d ps fs w all v) (TellsPairs set d ps fs w tried u) h j e r is
       (λ es call told. (tells_short (told_of w) (told_of before) on.0 (told_of (walked set sheet w all)) es call end told.0, tt))
       (offers_then os (o ∷ []) s t u h i j (Err e) first second d w m)

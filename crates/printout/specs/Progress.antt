@@ -30,7 +30,7 @@ use Rattle.printout.specs.declared.endings.Ending.TheVariants.{Complete}
 
 -- ---- an inspection
 -- a list has its places, and what is listed has numbers of the sheet
-pub record Lists {E : Type 0} (n : Naming E) (sheet : Sheet) (list : Contents E) : Type 0 where
+pub record Listed {E : Type 0} (n : Naming E) (sheet : Sheet) (list : Contents E) : Type 0 where
   pub room : length list.entries + length list.rest ≡ places
   pub inside : All (λ e. IsTrue (n.inside sheet e)) list.entries
 
@@ -44,8 +44,8 @@ pub record Made
   pub draft : s.core.draft ≡ d
   pub found : found_in s ≡ w.found
   pub rows : IsFalse (lacks_rows s.core.draft ps fs)
-  pub vf : Lists vf_naming (sheet_in s.core.draft ps fs) s.vf
-  pub ee : Lists ee_naming (sheet_in s.core.draft ps fs) s.ee
+  pub vf : Listed vf_naming (sheet_in s.core.draft ps fs) s.vf
+  pub ee : Listed ee_naming (sheet_in s.core.draft ps fs) s.ee
   pub run : Run set s.core.draft (sheet_in s.core.draft ps fs) w.accepted s
 
 -- an inspection in the state s is just opened: over any tables of the draft's rows
@@ -104,32 +104,12 @@ abbrev pub TellsText : {X : Type 0} → List ℕ → (X → Type 0) → List (Ev
     → Result X (Call PlanFile) → Type 0
 TellsText text Q es how = Tells 0 nothing_told (only_text text) es how × IfOk how Q
 
-module _ {S E X : Type 0} (does : S → Event PlanFile → S → Type 0) (fails : S → Call PlanFile → E → S → Type 0) where
-  -- why a pair is refused is printed, and the pair stored
-  unfoldable pub Refuses : Notice → Offering → S → Result X E → S → Type 0
-  Refuses n o h r h' = Ran does fails (Tells 0 nothing_told (refusal_told n o)) h r h'
-
 -- ---- pairs are offered
-module _ (set : Shape → Bool) (d : Draft) (ps : List Point) (fs : List Face) (w : Walk) where
-  -- what goes on from the walk w over these pairs is told, and has led to the state t
-  abbrev pub Offered : {X : Type 0} → List Offering → State → List (Event PlanFile) → Result X (Call PlanFile) → Type 0
-  Offered os t es how =
-      let v = walked set (sheet_in d ps fs) w os in
-      Tells 0 (told_of w) (told_of v) es how × IfOk how (λ x. Made set d ps fs v t)
-
-module _ {S E X : Type 0} (does : S → Event PlanFile → S → Type 0) (fails : S → Call PlanFile → E → S → Type 0) where
-  -- from the state s to t: whatever walk s has made, t has made it further
-  unfoldable pub Offers : (Shape → Bool) → List Point → List Face → List Offering → State → State
-      → S → Result X E → S → Type 0
-  Offers set ps fs os s t h r h' =
-      (d : Draft) (w : Walk) → Made set d ps fs w s → Ran does fails (Offered set d ps fs w os t) h r h'
-
--- ---- the pairs of the plan's file are offered as they come
--- those that came
+-- of the pairs of the plan's file, those that came
 abbrev pub pairs_came : List (Event PlanFile) → List Offering
 pairs_came es = offers_in (came (same_file Pairs) es)
 
--- the file came to its end, or so far each piece was full
+-- that file came to its end, or so far each piece was full
 abbrev pub CameTo : Bool → List (Event PlanFile) → Type 0
 CameTo true es =
     (all : List ℕ) → came (same_file Pairs) es ≡ take (asked (same_file Pairs) es) all
@@ -138,32 +118,49 @@ CameTo false es =
     (asked (same_file Pairs) es ≡ length (came (same_file Pairs) es))
     × (length (came (same_file Pairs) es) % 4 ≡ 0)
 
--- these bytes came at once, of so many that were asked for, a whole number of pairs
--- fewer bytes are the last
-unfoldable pub PieceCame : {S : Type 0} → (S → Event PlanFile → S → Type 0) → ℕ → List ℕ → Bool → S → S → Type 0
-PieceCame does size bytes is_last h h' =
-    does h (Read Pairs size bytes) h' × (size % 4 ≡ 0) × (length bytes ≤ size) × (nat_lt (length bytes) size ≡ is_last)
-
--- what goes on from the walk w to v is told
-pub record TellsFile {X : Type 0} (w v : Walk) (es : List (Event PlanFile)) (how : Result X (Call PlanFile)) : Type 0 where
+-- what goes on from the walk w to v is told, as the pieces of the file come
+pub record TellsPieces {X : Type 0} (w v : Walk) (es : List (Event PlanFile)) (how : Result X (Call PlanFile)) : Type 0 where
   pub pieces : ℕ
   pub tells : Tells pieces (told_of w) (told_of v) es how
   pub is_last : Bool
   pub came : CameTo is_last es
 
 module _ (set : Shape → Bool) (d : Draft) (ps : List Point) (fs : List Face) (w : Walk) where
-  -- the last piece has come, or not yet
-  abbrev pub OfferedFile : {X : Type 0} → Bool → State → List (Event PlanFile) → Result X (Call PlanFile) → Type 0
-  OfferedFile is_last t es how =
+  -- what goes on from the walk w over these pairs is told, and has led to the state t
+  abbrev pub TellsPairs : {X : Type 0} → List Offering → State → List (Event PlanFile) → Result X (Call PlanFile) → Type 0
+  TellsPairs os t es how =
+      let v = walked set (sheet_in d ps fs) w os in
+      Tells 0 (told_of w) (told_of v) es how × IfOk how (λ x. Made set d ps fs v t)
+
+  -- and over the pairs that came, of which the last has come, or not yet
+  abbrev pub TellsFile : {X : Type 0} → Bool → State → List (Event PlanFile) → Result X (Call PlanFile) → Type 0
+  TellsFile is_last t es how =
       let v = walked set (sheet_in d ps fs) w (pairs_came es) in
-      (told : TellsFile w v es how) × IfOk how (λ x. (told.is_last ≡ is_last) × Made set d ps fs v t)
+      (told : TellsPieces w v es how) × IfOk how (λ x. (told.is_last ≡ is_last) × Made set d ps fs v t)
 
 module _ {S E X : Type 0} (does : S → Event PlanFile → S → Type 0) (fails : S → Call PlanFile → E → S → Type 0) where
+  -- why a pair is refused is printed, and the pair stored
+  unfoldable pub Refuses : Notice → Offering → S → Result X E → S → Type 0
+  Refuses n o h r h' = Ran does fails (Tells 0 nothing_told (refusal_told n o)) h r h'
+
+  -- pairs are offered, from the state s to t: whatever walk s has made, t has made it further
+  unfoldable pub Offers : (Shape → Bool) → List Point → List Face → List Offering → State → State
+      → S → Result X E → S → Type 0
+  Offers set ps fs os s t h r h' =
+      (d : Draft) (w : Walk) → Made set d ps fs w s → Ran does fails (TellsPairs set d ps fs w os t) h r h'
+
+  -- and so are those of the file, piece by piece
   unfoldable pub OffersFile : (Shape → Bool) → List Point → List Face → Bool → State → State
       → S → Result X E → S → Type 0
   OffersFile set ps fs is_last s t h r h' =
-      (d : Draft) (w : Walk) → Made set d ps fs w s → Ran does fails (OfferedFile set d ps fs w is_last t) h r h'
+      (d : Draft) (w : Walk) → Made set d ps fs w s → Ran does fails (TellsFile set d ps fs w is_last t) h r h'
 
+-- a piece: so many bytes were asked for, a whole number of pairs; if fewer came it is the last
+unfoldable pub PieceCame : {S : Type 0} → (S → Event PlanFile → S → Type 0) → ℕ → List ℕ → Bool → S → S → Type 0
+PieceCame does size bytes is_last h h' =
+    does h (Read Pairs size bytes) h' × (size % 4 ≡ 0) × (length bytes ≤ size) × (nat_lt (length bytes) size ≡ is_last)
+
+-- ---- a run and its parts
 -- all that a plan makes it print and store
 abbrev pub plan_told : Plan → Told
 plan_told p = record { text = (printout p).text; stored = (printout p).stored }
@@ -195,7 +192,7 @@ FitsFile f bytes es = came (same_file f) es ≡ take (asked (same_file f) es) by
 abbrev pub NotRead : PlanFile → List (Event PlanFile) → Result Ending (Call PlanFile) → Type 0
 NotRead f es how = All (λ g. same_file f g ≡ false) (files_read es ++ unread_by how)
 
--- ---- the run after the step
+-- after the step
 -- these tables hold the sheet of a plan that has no fault
 pub record HoldsPlan (p : Plan) (d : Draft) (ps : List Point) (fs : List Face) : Type 0 where
   pub no_fault : fault p ≡ None
@@ -209,7 +206,7 @@ AfterStep d ps fs es how =
     × ((p : Plan) → HoldsPlan p d ps fs → FitsFile Pairs p.pairs es
     → Comes p (λ n. replicate n Pairs) es how)
 
--- ---- the run after the sheet
+-- after the sheet
 -- these tables hold the sheet of a plan, at rest
 pub record HoldsSheet (p : Plan) (d : Draft) (ps : List Point) (fs : List Face) : Type 0 where
   pub no_fault : sheet_fault p ≡ None

@@ -29,7 +29,7 @@ const DEPTH: u8 = 2;
 const PLACES: usize = 512;
 
 /// Offers the pairs of the plan's file, a buffer at a time.
-#[tactic(auto, using(crate::proofs::Files::begun, crate::proofs::Files::unread_piece, crate::proofs::Files::piece_offered, crate::proofs::Files::piece_cut))]
+#[tactic(auto, using(crate::proofs::FileOfPairs::begun, crate::proofs::FileOfPairs::unread_piece, crate::proofs::FileOfPairs::piece_offered, crate::proofs::FileOfPairs::piece_cut))]
 pub(crate) fn offer_file<F: Filter, H: Host<File = PlanFile>>(
     inspection: &mut Inspection<F>,
     points: &[Point],
@@ -83,7 +83,7 @@ fn read_piece<H: Host<File = PlanFile>>(pairs: &mut [u8], host: &mut H) -> Resul
 }
 
 /// The run after the step: the pairs are offered in their order, and then the report is printed.
-#[tactic(auto, using(crate::proofs::Reported::ran_in_part, crate::proofs::Reported::reportable, crate::proofs::Reported::ran))]
+#[tactic(auto, using(crate::proofs::FileOfPairs::ran_in_part, crate::proofs::FileOfPairs::reportable, crate::proofs::FileOfPairs::ran))]
 pub(crate) fn inspect_pairs<H: Host<File = PlanFile>>(
     draft: Draft,
     tables: &mut Tables,
@@ -114,7 +114,7 @@ pub(crate) fn inspect_pairs<H: Host<File = PlanFile>>(
 }
 
 /// Opens the inspection of a plan: it has made no step of its walk.
-#[tactic(auto, using(crate::proofs::Reported::made_none))]
+#[tactic(auto, using(crate::proofs::FileOfPairs::made_none))]
 fn open_plan(
     draft: Draft,
     vf: &mut List<'_, VfName>,
@@ -131,7 +131,7 @@ fn open_plan(
 }
 
 /// Prints what an inspection has found.
-#[tactic(auto, using(crate::proofs::Reported::no_faults))]
+#[tactic(auto, using(crate::proofs::FileOfPairs::no_faults))]
 fn print_found<F: Filter, H: Host<File = PlanFile>>(
     inspection: &Inspection<F>,
     points: &[Point],
