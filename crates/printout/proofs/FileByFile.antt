@@ -78,9 +78,6 @@ module _ (p : Plan) (size : ℕ) (text : List ℕ) (limit : size ≡ text_limit 
 -- ---- the step's record, to one byte past the limit
 module _ (p : Plan) (d : Draft) (ps : List Point) (fs : List Face) (h : HoldsSheet p d ps fs) (room : d.points ≤ length ps) (few : d.points ≤ point_limit)
     (size : ℕ) (bytes : List ℕ) (limit : size ≡ record_limit + 1) (is : bytes ≡ take size p.step) where
-  many : d.points ≡ length (resting_points p)
-  many = ap (λ (k : Draft). k.points) h.draft
-
   -- the table's further rows say nothing
   same_rows : (bs : List ℕ) → first_fit (lay_checks d.points ps bs) ≡ first_fit (lay_checks (draft p).points (resting_points p) bs)
   same_rows bs =
@@ -100,20 +97,20 @@ module _ (p : Plan) (d : Draft) (ps : List Point) (fs : List Face) (h : HoldsShe
       let no_step : step_fault p ≡ None = sym step_fault_of ∙ sym none in
       let whole : bytes ≡ p.step = is ∙ record_front.front_is_whole d.points ps size p.step (omega (arith, limit, few)) (same_rows p.step ∙ no_step) in
       let rows = with_ends (take d.points ps) bytes in
-      let count : d.points ≡ length rows = many ∙ ap length (sym h.points) ∙ sym (length_with_ends (take d.points ps) bytes) in
+      let count : d.points ≡ length rows = ap (λ (k : Draft). k.points) h.draft ∙ ap length (sym h.points) ∙ sym (length_with_ends (take d.points ps) bytes) in
       record {
         no_fault = (λ i. or_else (h.no_fault i) (no_step i));
         draft = h.draft;
         sheet = (λ i. sheet_of ((front rows ps d.points count ∙ (λ j. with_ends (h.points j) (whole j))) i) (h.faces i));
       }
 
-module _ (p : Plan) (needed_in : ℕ → List PlanFile) where
-  -- ---- a whole run to its end, and one that a call stops
+-- ---- a whole run to its end, and one that a call stops
+module _ (p : Plan) where
   abbrev pub Settles : List (Event PlanFile) → Result Ending (Call PlanFile) → Type 0
-  Settles es (Ok end) = EndsWith p needed_in es end
-  Settles es (Err call) = StopsWith p needed_in es call
+  Settles es (Ok end) = EndsWith p es end
+  Settles es (Err call) = StopsWith p es call
 
-  pub settles : (es : List (Event PlanFile)) (how : Result Ending (Call PlanFile)) → Comes p needed_in es how → Settles es how
+  pub settles : (es : List (Event PlanFile)) (how : Result Ending (Call PlanFile)) → Comes p (needed p) es how → Settles es how
   settles es (Ok end) c =
       let all = c.parts ∙ ap (λ r. told_by es ⊕ r) c.ends.told ∙ told_nothing (told_by es) in
       record {
@@ -130,10 +127,12 @@ module _ (p : Plan) (needed_in : ℕ → List PlanFile) where
         text = front_of (printed es) c.rest.text (printout p).text (ap (λ l. l.text) c.parts);
         stored = front_of (stored es) c.rest.stored (printout p).stored (ap (λ l. l.stored) c.parts);
         pieces = c.pieces;
-        files = front_of (files_read es ++ unread call) c.later (needed_in c.pieces) c.files;
+        files = front_of (files_read es ++ unread call) c.later (needed p c.pieces) c.files;
         told = λ f is. c.told f (ap unread is);
       }
 
+-- ---- of the files that are needed from there on
+module _ (p : Plan) (needed_in : ℕ → List PlanFile) where
   -- ---- the line of a fault is printed after the file that has it
   pub comes_faulty : (n : Notice) → fault p ≡ Some n → (f : PlanFile) (size : ℕ) (bytes : List ℕ) → needed_in 0 ≡ f ∷ [] → (es : List (Event PlanFile)) (how : Result Ending (Call PlanFile))
       → TellsText (notice_line n) (λ end. end ≡ Faulty) es how → Comes p needed_in (Read f size bytes ∷ es) how
@@ -192,7 +191,7 @@ module _ {S E : Type 0} (does : S → Event PlanFile → S → Type 0) (fails : 
   Whole es how = (p : Plan) → ReadsPlan p es → Comes p (needed p) es how
 
   inspects : (s t : S) (r : Result Ending E) → Ran does fails Whole s r t → Inspects does fails s r t
-  inspects s t r ran = ran_after does fails (λ es how. (p : Plan) → ReadsPlan p es → Settles p (needed p) es how) Whole s s t [] nothing (λ es how comes p reads. settles p (needed p) es how (comes p reads)) r ran
+  inspects s t r ran = ran_after does fails (λ es how. (p : Plan) → ReadsPlan p es → Settles p es how) Whole s s t [] nothing (λ es how comes p reads. settles p es how (comes p reads)) r ran
 
   pub sheet_unread : (s t : S) (e : E) (r : Result Ending E) → fails s (Reading Sheet) e t → r ≡ Err e → Inspects does fails s r t
   sheet_unread s t e r f is = inspects s t r (ran_none does fails Whole s t (Reading Sheet) e r is f (λ p reads. comes_unread p (needed p) Sheet (files_after (sheet_fault p) (after_sheet p 0)) refl))

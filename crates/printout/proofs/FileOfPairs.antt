@@ -1,5 +1,5 @@
 -- The pairs of a plan's file: they are offered piece by piece, and then what is found is reported.
-use Rattle.std.proofs.Common.{◌≡◌, ℕ, ◌+◌, ◌-◌, ◌*◌, ◌/◌, ◌%◌, ◌≤◌, Bool, true, false, List, [], ◌∷◌, ◌++◌, All, length, take, drop, nat_lt, Ok, Err, Result, refl, sym, ap, ◌∙◌, subst, arith, append-nil, length-append, length-take, not, IsTrue, ◌||◌, if◌then◌else◌, replicate, Some, None, IfOk, OnOk}
+use Rattle.std.proofs.Common.{◌≡◌, ℕ, ◌+◌, ◌-◌, ◌*◌, ◌/◌, ◌%◌, ◌≤◌, Bool, true, false, List, [], ◌∷◌, ◌++◌, All, length, take, drop, nat_lt, Ok, Err, Result, refl, sym, ap, ◌∙◌, subst, arith, append-nil, length-append, length-take, not, IsTrue, ◌||◌, if◌then◌else◌, replicate, Some, None, IfOk}
 use Rattle.std.proofs.lemmas.Bool.{ltb-true, ltb-false, le-ltb}
 use Rattle.std.proofs.lemmas.Result.{IfOk-weaker}
 use Rattle.std.proofs.lemmas.List.{take_all, take-append-drop, replicate-append-replicate}
@@ -48,10 +48,8 @@ use Rattle.printout.proofs.Offers.{goes_on}
 -- whole pairs, and then others
 offers_in-append : (n : ℕ) (xs ys : List ℕ) → length xs ≡ 4 * n → offers_in (xs ++ ys) ≡ offers_in xs ++ offers_in ys
 offers_in-append n [] ys e = refl
-offers_in-append n (a ∷ []) ys e = absurd (omega arith)
-offers_in-append n (a ∷ b ∷ []) ys e = absurd (omega arith)
-offers_in-append n (a ∷ b ∷ c ∷ []) ys e = absurd (omega arith)
 offers_in-append n (a ∷ b ∷ c ∷ d ∷ xs) ys e = ap (λ os. Faces (number_of a b) (number_of c d) ∷ os) (offers_in-append (n - 1) xs ys (omega arith))
+offers_in-append n xs ys e = absurd (omega arith)
 
 whole_pairs : (xs ys : List ℕ) → length xs % 4 ≡ 0 → offers_in (xs ++ ys) ≡ offers_in xs ++ offers_in ys
 whole_pairs xs ys e = offers_in-append (length xs / 4) xs ys (omega arith)
@@ -77,7 +75,7 @@ module _ (es gs : List (Event PlanFile)) (none : All (λ f. same_file Pairs f �
   asked_quiet = omega (arith, sum_by-append (asked_by (same_file Pairs)) es gs, not_asked (same_file Pairs) gs none)
 
 -- ---- a piece is read after full ones, and then nothing of the file
-module _ (es gs : List (Event PlanFile)) (size : ℕ) (chunk : List ℕ) (full : CameTo false es) (whole : size % 4 ≡ 0) (few : length chunk ≤ size)
+module _ (es gs : List (Event PlanFile)) (size : ℕ) (chunk : List ℕ) (is_last : Bool) (full : CameTo false es) (whole : size % 4 ≡ 0) (few : length chunk ≤ size) (last : nat_lt (length chunk) size ≡ is_last)
     (none : All (λ f. same_file Pairs f ≡ false) (files_read gs)) where
   abbrev read : List (Event PlanFile)
   read = Read Pairs size chunk ∷ []
@@ -91,8 +89,8 @@ module _ (es gs : List (Event PlanFile)) (size : ℕ) (chunk : List ℕ) (full :
   all_asked : asked (same_file Pairs) with_piece ≡ asked (same_file Pairs) es + size
   all_asked = omega (arith, asked_quiet (es ++ read) gs none, sum_by-append (asked_by (same_file Pairs)) es read, sum_by-cons (asked_by (same_file Pairs)) (Read Pairs size chunk) [])
 
-  pub came_to : CameTo (nat_lt (length chunk) size) with_piece
-  came_to = by (nat_lt (length chunk) size) refl
+  pub came_to : CameTo is_last with_piece
+  came_to = by is_last last
     where
       count : length (came (same_file Pairs) with_piece) ≡ length (came (same_file Pairs) es) + length chunk
       count = ap length all_came ∙ length-append (came (same_file Pairs) es) chunk
@@ -105,13 +103,6 @@ module _ (es gs : List (Event PlanFile)) (size : ℕ) (chunk : List ℕ) (full :
       by false long =
           let same : length chunk ≡ size = omega (arith, ltb-false (length chunk) size long) in
           (omega (arith, count, all_asked, full.0, same), omega (arith, count, full.1, whole, same))
-
-  -- the walk goes on over its pairs
-  pub walk_on : (set : Shape → Bool) (d : Draft) (ps : List Point) (fs : List Face) (w : Walk)
-      → walked set (sheet_in d ps fs) (walked set (sheet_in d ps fs) w (pairs_came es)) (offers_in chunk) ≡ walked set (sheet_in d ps fs) w (pairs_came with_piece)
-  walk_on set d ps fs w =
-      sym (fold-append (offered set (sheet_in d ps fs)) w (pairs_came es) (offers_in chunk))
-      ∙ ap (walked set (sheet_in d ps fs) w) (sym (whole_pairs (came (same_file Pairs) es) chunk full.1) ∙ ap offers_in (sym all_came))
 
 -- ---- in the words of the calls
 module _ {S E : Type 0} (does : S → Event PlanFile → S → Type 0) (fails : S → Call PlanFile → E → S → Type 0)
@@ -156,11 +147,11 @@ module _ {S E : Type 0} (does : S → Event PlanFile → S → Type 0) (fails : 
       })
 
   -- a piece is read, and its pairs are offered
-  piece_step : (s t u : State) (h i j k : S) (size : ℕ) (chunk : List ℕ) (r : Result (Unit {0}) E) → size % 4 ≡ 0 → length chunk ≤ size
-      → OffersFile {X = Unit {0}} does fails set ps fs false s t h (Ok tt) i → does i (Read Pairs size chunk) j
-      → Offers does fails set ps fs (offers_in chunk) t u j r k → OffersFile does fails set ps fs (nat_lt (length chunk) size) s u h r k
-  unfolding Offers OffersFile
-  piece_step s t u h i j k size chunk r whole few going did offers d w m =
+  pub piece_offered : (is_last : Bool) (s t u : State) (h i j k : S) (size : ℕ) (chunk : List ℕ) (r : Result (Unit {0}) E)
+      → OffersFile {X = Unit {0}} does fails set ps fs false s t h (Ok tt) i → PieceCame does size chunk is_last i j
+      → Offers does fails set ps fs (offers_in chunk) t u j r k → OffersFile does fails set ps fs is_last s u h r k
+  unfolding PieceCame Offers OffersFile
+  piece_offered is_last s t u h i j k size chunk r going (did, whole, few, last) offers d w m =
       let sheet = sheet_in d ps fs in
       let a = going d w m in
       let told = a.good.0 in
@@ -169,37 +160,31 @@ module _ {S E : Type 0} (does : S → Event PlanFile → S → Type 0) (fails : 
       let read = Read Pairs size chunk ∷ [] in
       let full = subst (λ b. CameTo b a.events) a.good.1.0 told.came in
       let first = tells_then told.pieces 1 (told_of w) (told_of v) (told_of v) a.events read tt (Ok tt) told.tells (quiet 1 (told_of v) read (Ok (tt {0})) refl refl refl) in
-      ran_after does fails (TellsFile set d ps fs w (nat_lt (length chunk) size) u) (TellsPairs set d ps fs v (offers_in chunk) u) h j k (a.events ++ read) (next (Read Pairs size chunk) a.went did)
+      ran_after does fails (TellsFile set d ps fs w is_last u) (TellsPairs set d ps fs v (offers_in chunk) u) h j k (a.events ++ read) (next (Read Pairs size chunk) a.went did)
       (λ gs how b.
+      let all = (a.events ++ read) ++ gs in
       let none = none_of (λ f. same_file Pairs f ≡ false) (files_read gs) (unread_by how) b.0.files in
-      let on = walk_on a.events gs size chunk full whole few none set d ps fs w in (
+      let on : end ≡ walked set sheet w (pairs_came all) =
+      sym (fold-append (offered set sheet) w (pairs_came a.events) (offers_in chunk))
+      ∙ ap (walked set sheet w) (sym (whole_pairs (came (same_file Pairs) a.events) chunk full.1) ∙ ap offers_in (sym (all_came a.events gs size chunk is_last full whole few last none))) in (
         record {
           pieces = told.pieces + 1 + 0;
-          tells = subst (λ y. Tells (told.pieces + 1 + 0) (told_of w) (told_of y) ((a.events ++ read) ++ gs) how) on
-              (tells_then (told.pieces + 1) 0 (told_of w) (told_of v) (told_of end) (a.events ++ read) gs tt how first b.0);
-          is_last = nat_lt (length chunk) size;
-          came = came_to a.events gs size chunk full whole few none;
+          tells = subst (λ y. Tells (told.pieces + 1 + 0) (told_of w) (told_of y) all how) on (tells_then (told.pieces + 1) 0 (told_of w) (told_of v) (told_of end) (a.events ++ read) gs tt how first b.0);
+          is_last = is_last;
+          came = came_to a.events gs size chunk is_last full whole few last none;
         },
-        IfOk-weaker how (λ y. Made set d ps fs end u) (λ y. (nat_lt (length chunk) size ≡ nat_lt (length chunk) size) × Made set d ps fs (walked set sheet w (pairs_came ((a.events ++ read) ++ gs))) u)
-            (λ y made. (refl, subst (λ y. Made set d ps fs y u) on made)) b.1,
+        IfOk-weaker how (λ y. Made set d ps fs end u) (λ y. (is_last ≡ is_last) × Made set d ps fs (walked set sheet w (pairs_came all)) u) (λ y made. (refl, subst (λ y. Made set d ps fs y u) on made)) b.1,
       ))
       r (offers d v a.good.1.1)
-
-  pub piece_offered : (is_last : Bool) (s t u : State) (h i j k : S) (size : ℕ) (chunk : List ℕ)
-      → OffersFile {X = Unit {0}} does fails set ps fs false s t h (Ok tt) i → PieceCame does size chunk is_last i j
-      → Offers {X = Unit {0}} does fails set ps fs (offers_in chunk) t u j (Ok tt) k → OffersFile {X = Unit {0}} does fails set ps fs is_last s u h (Ok tt) k
-  unfolding PieceCame
-  piece_offered is_last s t u h i j k size chunk going piece offers =
-      subst (λ b. OffersFile does fails set ps fs b s u h (Ok (tt {0})) k) piece.3 (piece_step s t u h i j k size chunk (Ok tt) piece.1 piece.2 going piece.0 offers)
 
   -- a call fails while its pairs are offered
   pub piece_cut : (is_last : Bool) (s t u v : State) (h i j k : S) (size : ℕ) (chunk : List ℕ) (e : E) (r : Result (Unit {0}) E) → r ≡ Err e
       → OffersFile {X = Unit {0}} does fails set ps fs false s t h (Ok tt) i → PieceCame does size chunk is_last i j
       → Offers {X = Unit {0}} does fails set ps fs (offers_in chunk) t u j (Err e) k → OffersFile does fails set ps fs true s v h r k
-  unfolding PieceCame OffersFile
+  unfolding OffersFile
   piece_cut is_last s t u v h i j k size chunk e r is going piece offers d w m =
-      ran_short does fails (TellsFile set d ps fs w true v) (TellsFile set d ps fs w (nat_lt (length chunk) size) u) h k e r is (λ es call told. told)
-      (piece_step s t u h i j k size chunk (Err e) piece.1 piece.2 going piece.0 offers d w m)
+      ran_short does fails (TellsFile set d ps fs w true v) (TellsFile set d ps fs w is_last u) h k e r is (λ es call told. told)
+      (piece_offered is_last s t u h i j k size chunk (Err e) going piece offers d w m)
 
 -- ---- no check of the report fits entries that are of the sheet
 no_stray : {E : Type 0} (n : Naming E) (l : ListKind) (v : View) (i : ℕ) (es : List E) → All (λ e. IsTrue (n.inside v.sheet e)) es → first_fit (checks_from n l v i es) ≡ None
@@ -348,9 +333,9 @@ module _ {S E : Type 0} (does : S → Event PlanFile → S → Type 0) (fails : 
 
     pub ran : (r : Result Ending E) (k : S)
         → Prints does fails (report_in ps fs t) m r k
-        → IfOk r (λ end. end ≡ Complete) → OnOk r (Findings delivered t) → Ran does fails (AfterStep d ps fs) h r k
+        → IfOk r (λ end. (end ≡ Complete) × Findings delivered t) → Ran does fails (AfterStep d ps fs) h r k
     unfolding OffersFile
-    ran r k print complete found =
+    ran r k print found =
         let a = offers d (just_opened d) start in
         let told = a.good.0 in
         let w = walked delivered (sheet_in d ps fs) (just_opened d) (pairs_came a.events) in
@@ -362,8 +347,4 @@ module _ {S E : Type 0} (does : S → Event PlanFile → S → Type 0) (fails : 
           only_pairs StepFile (told.pieces + 0) (files_read (a.events ++ gs) ++ unread_by how) refl all.files,
           λ p holds. comes_reported p d ps fs holds a.events gs how t a.good.1.1 (subst (λ b. CameTo b a.events) a.good.1.0 told.came) (told.pieces + 0) all report.0.files report.1,
         ))
-        r (told_print does fails (λ end. (end ≡ Complete) × Findings delivered t) m k (report_in ps fs t) r print (both r complete found))
-      where
-        both : (r : Result Ending E) → IfOk r (λ end. end ≡ Complete) → OnOk r (Findings delivered t) → IfOk r (λ end. (end ≡ Complete) × Findings delivered t)
-        both (Ok end) complete found = (complete, found)
-        both (Err e) complete found = tt
+        r (told_print does fails (λ end. (end ≡ Complete) × Findings delivered t) m k (report_in ps fs t) r print found)

@@ -2,7 +2,7 @@
 use Rattle.std.proofs.Common.{◌≡◌, ℕ, ◌+◌, List, [], ◌∷◌, ◌++◌, replicate, Ok, Err, Result, IfOk, MatchResult, refl, sym, ap, ◌∙◌, subst, append_assoc, append-nil}
 use Rattle.std.proofs.lemmas.List.{replicate-append-replicate}
 use Rattle.std.proofs.lemmas.List.Concat.{flat_map-append}
-use Rattle.hosts.specs.Events.{Event, Stored, Call, Reading, Printing, Storing, files_read, unread, printed_by, stored_by, file_read_by}
+use Rattle.hosts.specs.Events.{Event, Stored, Call, Reading, Storing, files_read, unread, printed_by, stored_by, file_read_by}
 use Rattle.hosts.specs.Traces.{nothing, next, CutOff}
 use Rattle.hosts.specs.Works.{Ran, unread_by, Stopped, IsPrintedInPart, Prints}
 use Rattle.hosts.proofs.Histories.{prints_store_nothing, prints_read_nothing}
@@ -32,8 +32,7 @@ never_reads es how f none is = some_read (files_read es) f (ap (λ l. files_read
 -- where reading fails, all is told
 pub unread_untold : (X : Type 0) (call : Call PlanFile) (rest : Told) (f : PlanFile) → LeavesUntold {X = X} (Err call) rest → unread call ≡ f ∷ [] → rest ≡ nothing_told
 unread_untold X (Reading g) rest f untold is = untold
-unread_untold X Printing rest f untold is = cc
-unread_untold X Storing rest f untold is = cc
+unread_untold X call rest f untold is = cc
 
 told_append : (es fs : List (Event PlanFile)) → told_by (es ++ fs) ≡ told_by es ⊕ told_by fs
 told_append es fs = λ i. record { text = flat_map-append printed_by es fs i; stored = flat_map-append stored_by es fs i }
@@ -80,9 +79,8 @@ module _ {X : Type 0} where
       record { rest = t.rest ⊕ more; parts = is ∙ ap (λ l. l ⊕ more) t.parts ∙ told_assoc (a ⊕ told_by es) t.rest more; untold = untold call t.files; files = t.files }
     where
       untold : (call : Call PlanFile) → files_read es ++ unread call ≡ [] → LeavesUntold {X = Y} (Err call) (t.rest ⊕ more)
-      untold Printing none = tt
-      untold Storing none = tt
       untold (Reading f) none = absurd (some_read (files_read es) f none)
+      untold call none = tt
 
 -- ---- in the words of the calls
 module _ {S E : Type 0} (does : S → Event PlanFile → S → Type 0) (fails : S → Call PlanFile → E → S → Type 0) where

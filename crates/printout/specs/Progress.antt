@@ -1,6 +1,6 @@
 -- How far a run has come: what is told, the inspection that has made a walk, and what is left to do.
 use Rattle.std.specs.Prelude.{◌≡◌, ℕ, ◌+◌, ◌%◌, ◌≤◌, nat_lt, Bool, true, false, IsTrue, IsFalse, IfOk, All, List, [], ◌++◌, length, take, replicate, Ok, Err, Result, ◌↔◌, ◌∷◌, None}
-use Rattle.hosts.specs.Events.{Event, Read, Call, Reading, Printing, Storing, printed, stored, files_read, asked, came}
+use Rattle.hosts.specs.Events.{Event, Read, Call, Reading, printed, stored, files_read, asked, came}
 use Rattle.hosts.specs.Works.{Ran, unread_by}
 use Rattle.sheet.specs.declared.drafts.Draft.{Draft}
 use Rattle.sheet.specs.declared.notices.Notice.{Notice}
@@ -88,8 +88,7 @@ refusal_told n o = record { text = notice_line n; stored = pair_bytes o }
 abbrev pub LeavesUntold : {X : Type 0} → Result X (Call PlanFile) → Told → Type 0
 LeavesUntold (Ok x) rest = rest ≡ nothing_told
 LeavesUntold (Err (Reading f)) rest = rest ≡ nothing_told
-LeavesUntold (Err Printing) rest = Unit {0}
-LeavesUntold (Err Storing) rest = Unit {0}
+LeavesUntold (Err call) rest = Unit {0}
 
 -- behind what was told before, the events tell all, or a front of it
 -- the file of pairs is read in so many pieces, and no other file

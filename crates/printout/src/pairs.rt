@@ -1,5 +1,5 @@
 // Offering the pairs of a plan's file.
-ghost use Rattle.std.specs.Prelude.{◌≡◌, ◌<◌, ◌≤◌, ◌%◌, true, IsFalse, length, take, IfOk, IfErr, OnOk};
+ghost use Rattle.std.specs.Prelude.{◌≡◌, ◌<◌, ◌≤◌, ◌%◌, true, IsFalse, length, take, IfOk, IfErr};
 ghost use Rattle.sheet.specs.Sheet.{point_limit, face_limit};
 ghost use Rattle.hosts.specs.Events.{Reading};
 ghost use Rattle.hosts.specs.Works.{Prints, Ran};
@@ -145,9 +145,9 @@ fn print_found<F: Filter, H: Host<File = PlanFile>>(
     ensures printed { let v = view_of F.Filter.struck inspection.now points.now faces.now in
         let text = report_text v (entries vf.now) (entries ee.now) in
         Prints H.does H.fails text host.old result host.new }
-    ensures ending { IfOk result (λ ending. ending ≡ Complete) }
-    ensures claim { let v = view_of F.Filter.struck inspection.now points.now faces.now in
-        OnOk result (Findings v.set (state_of inspection.now vf.now ee.now)) }
+    ensures found { let v = view_of F.Filter.struck inspection.now points.now faces.now in
+        IfOk result (λ ending.
+        (ending ≡ Complete) × Findings v.set (state_of inspection.now vf.now ee.now)) }
 {
     let Ok(()) = print_report(inspection, points, faces, vf, ee, host)? else {
         unreachable!()
