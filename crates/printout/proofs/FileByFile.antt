@@ -1,8 +1,8 @@
 -- A run over a host, file by file.
-use Rattle.std.proofs.Common.{◌≡◌, ℕ, ◌+◌, ◌≤◌, true, false, if◌then◌else◌, List, [], ◌∷◌, ◌++◌, All, length, take, drop, Some, None, Result, nat_lt, sym, ap, ◌∙◌, arith, append-nil, Ok, Err, IfOk, refl, replicate, subst}
+use Rattle.std.proofs.Common.{◌≡◌, ℕ, ◌+◌, ◌≤◌, true, false, if◌then◌else◌, List, [], ◌∷◌, ◌++◌, length, take, drop, Some, None, Result, nat_lt, sym, ap, ◌∙◌, arith, append-nil, Ok, Err, IfOk, refl, replicate, subst}
 use Rattle.std.proofs.Math.Seq.{take-append_seam, take-length}
 use Rattle.std.proofs.lemmas.Bool.{le-ltb}
-use Rattle.std.proofs.lemmas.List.Elements.{All-cons, All-nil, All-head, All-tail}
+use Rattle.std.proofs.lemmas.List.Elements.{All-cons, All-nil}
 use Rattle.std.proofs.lemmas.List.Sums.{sum_by-cons}
 use Rattle.hosts.specs.Events.{Event, Read, Call, files_read, asked, came, asked_by, Reading, printed, stored, unread}
 use Rattle.hosts.specs.Works.{unread_by, Ran, Prints}
@@ -33,19 +33,14 @@ use Rattle.printout.specs.Progress.{◌⊕◌, told_by, LeavesUntold, TellsText,
 use Rattle.printout.specs.Walks.{just_opened, walked, refusal_lines}
 use Rattle.printout.specs.declared.endings.Ending.TheVariants.{Complete, Faulty}
 use Rattle.printout.specs.declared.plan_files.PlanFile.TheVariants.{Pairs, Sheet, Step}
-use Rattle.printout.proofs.Telling.{told_nothing, never_reads, told_print}
+use Rattle.printout.proofs.Telling.{none_read, told_nothing, never_reads, told_print}
 use Rattle.hosts.specs.Traces.{nothing, next}
 use Rattle.hosts.proofs.Working.{ran_after, ran_none}
 
-front_all : {X : Type 0} (P : X → Type 0) (xs ys : List X) → All P (xs ++ ys) → All P xs
-front_all P [] ys all = All-nil P
-front_all P (x ∷ xs) ys all = All-cons P x xs (All-head P x (xs ++ ys) all) (front_all P xs ys (All-tail P x (xs ++ ys) all))
-
 -- a file that is read once has given its first bytes
-pub first_bytes : (f : PlanFile) (size : ℕ) (bytes file : List ℕ) (es : List (Event PlanFile)) (how : Result Ending (Call PlanFile)) → same_file f f ≡ true → NotRead f es how
+pub first_bytes : (f : PlanFile) (size : ℕ) (bytes file : List ℕ) (es : List (Event PlanFile)) → same_file f f ≡ true → NotRead f es
     → FitsFile f file (Read f size bytes ∷ es) → bytes ≡ take size file
-first_bytes f size bytes file es how itself later fits =
-    let none = front_all (λ g. same_file f g ≡ false) (files_read es) (unread_by how) later in
+first_bytes f size bytes file es itself none fits =
     let all_came : came (same_file f) (Read f size bytes ∷ es) ≡ bytes =
     (λ i. (if itself i then bytes else []) ++ not_came (same_file f) es none i) ∙ append-nil bytes in
     let all_asked : asked (same_file f) (Read f size bytes ∷ es) ≡ size =
@@ -181,10 +176,6 @@ module _ (p : Plan) (needed_in : ℕ → List PlanFile) where
             ∙ ap (λ b. refusal_lines (walked delivered (sheet p) (just_opened (draft p)) (offers_in ((if b then bytes else []) ++ came (same_file Pairs) es)))) (sym other);
       }
 
--- what reads nothing does not read this file
-not_read : (f : PlanFile) (es : List (Event PlanFile)) (how : Result Ending (Call PlanFile)) → files_read es ++ unread_by how ≡ [] → NotRead f es how
-not_read f es how none = subst (All (λ g. same_file f g ≡ false)) (sym none) (All-nil (λ g. same_file f g ≡ false))
-
 module _ {S E : Type 0} (does : S → Event PlanFile → S → Type 0) (fails : S → Call PlanFile → E → S → Type 0) where
   -- ---- the sheet
   abbrev Whole : List (Event PlanFile) → Result Ending (Call PlanFile) → Type 0
@@ -203,7 +194,7 @@ module _ {S E : Type 0} (does : S → Event PlanFile → S → Type 0) (fails : 
         inspects s t r
         (ran_after does fails Whole (TellsText (notice_line n) (λ e. e ≡ Faulty)) s m t (Read Sheet size text ∷ []) (next (Read Sheet size text) nothing did)
         (λ es how told p reads.
-        let is = first_bytes Sheet size text p.sheet es how refl (not_read Sheet es how told.0.files) (reads Sheet) in
+        let is = first_bytes Sheet size text p.sheet es refl (none_read Sheet es how told.0.files) (reads Sheet) in
         let has = sym (sheet_fault_of p size text limit is) ∙ sym fits in
         comes_faulty p (needed p) n (ap (λ o. or_else o (step_fault p)) has) Sheet size text (ap (λ o. Sheet ∷ files_after o (after_sheet p 0)) has) es how told)
         r (told_print does fails (λ e. e ≡ Faulty) m t (notice_line n) r print faulty))
@@ -214,20 +205,20 @@ module _ {S E : Type 0} (does : S → Event PlanFile → S → Type 0) (fails : 
         inspects s t r
         (ran_after does fails Whole (AfterSheet d qs gs) s m t (Read Sheet size text ∷ []) (next (Read Sheet size text) nothing did)
         (λ es how later p reads.
-        let is = first_bytes Sheet size text p.sheet es how refl later.0 (reads Sheet) in
+        let is = first_bytes Sheet size text p.sheet es refl later.0 (reads Sheet) in
         let holds = subst (λ l. HoldsSheet p d l gs) (sym points) (subst (HoldsSheet p d (onto_front (points_in (numbered text)) ps)) (sym faces) (holds_sheet p size text limit is d ps fs none draft)) in
         comes_after p (after_sheet p) Sheet size text (needed p) (λ n. ap (λ o. Sheet ∷ files_after o (after_sheet p n)) holds.no_fault) refl es how (later.1 p holds (reads Step) (reads Pairs)))
         r ran)
 
   -- ---- the step
   module _ (d : Draft) (ps : List Point) (fs : List Face) where
-    also : (es : List (Event PlanFile)) (how : Result Ending (Call PlanFile)) (size : ℕ) (bytes : List ℕ) → NotRead Sheet es how → NotRead Sheet (Read Step size bytes ∷ es) how
-    also es how size bytes later = All-cons (λ g. same_file Sheet g ≡ false) Step (files_read es ++ unread_by how) refl later
+    also : (es : List (Event PlanFile)) (size : ℕ) (bytes : List ℕ) → NotRead Sheet es → NotRead Sheet (Read Step size bytes ∷ es)
+    also es size bytes later = All-cons (λ g. same_file Sheet g ≡ false) Step (files_read es) refl later
 
     pub step_unread : (s t : S) (e : E) (r : Result Ending E) → fails s (Reading Step) e t → r ≡ Err e → Ran does fails (AfterSheet d ps fs) s r t
     step_unread s t e r f is =
         ran_none does fails (AfterSheet d ps fs) s t (Reading Step) e r is f
-        (All-cons (λ g. same_file Sheet g ≡ false) Step [] refl (All-nil (λ g. same_file Sheet g ≡ false)), λ p holds step pairs. comes_unread p (after_sheet p) Step (files_after (step_fault p) []) refl)
+        (All-nil (λ g. same_file Sheet g ≡ false), λ p holds step pairs. comes_unread p (after_sheet p) Step (files_after (step_fault p) []) refl)
 
     module _ (s m t : S) (size : ℕ) (bytes : List ℕ) (did : does s (Read Step size bytes) m) (limit : size ≡ record_limit + 1) (room : d.points ≤ length ps) (few : d.points ≤ point_limit) where
       pub step_faulty : (n : Notice) → Some n ≡ first_fit (lay_checks d.points ps bytes) → (r : Result Ending E) → Prints does fails (notice_line n) m r t → IfOk r (λ e. e ≡ Faulty)
@@ -235,9 +226,9 @@ module _ {S E : Type 0} (does : S → Event PlanFile → S → Type 0) (fails : 
       step_faulty n fits r print faulty =
           ran_after does fails (AfterSheet d ps fs) (TellsText (notice_line n) (λ e. e ≡ Faulty)) s m t (Read Step size bytes ∷ []) (next (Read Step size bytes) nothing did)
           (λ es how told. (
-            also es how size bytes (not_read Sheet es how told.0.files),
+            also es size bytes (none_read Sheet es how told.0.files),
             λ p h step pairs.
-                let is = first_bytes Step size bytes p.step es how refl (not_read Step es how told.0.files) step in
+                let is = first_bytes Step size bytes p.step es refl (none_read Step es how told.0.files) step in
                 let has = sym (step_fault_of p d ps fs h room few size bytes limit is) ∙ sym fits in
                 comes_faulty p (after_sheet p) n ((λ i. or_else (h.no_fault i) (step_fault p)) ∙ has) Step size bytes (ap (λ o. Step ∷ files_after o []) has) es how told,
           ))
@@ -248,9 +239,9 @@ module _ {S E : Type 0} (does : S → Event PlanFile → S → Type 0) (fails : 
       step_accepted none qs r rows ran =
           ran_after does fails (AfterSheet d ps fs) (AfterStep d qs fs) s m t (Read Step size bytes ∷ []) (next (Read Step size bytes) nothing did)
           (λ es how later. (
-            also es how size bytes later.0,
+            also es size bytes later.0,
             λ p h step pairs.
-                let is = first_bytes Step size bytes p.step es how refl later.1 step in
+                let is = first_bytes Step size bytes p.step es refl later.1 step in
                 let holds = subst (λ l. HoldsPlan p d l fs) (sym rows) (holds_plan p d ps fs h room few size bytes limit is none) in
                 let clean : step_fault p ≡ None = sym (λ i. or_else (h.no_fault i) (step_fault p)) ∙ holds.no_fault in
                 comes_after p (λ n. replicate n Pairs) Step size bytes (after_sheet p) (λ n. ap (λ o. Step ∷ files_after o (replicate n Pairs)) clean) refl es how (later.2 p holds pairs),

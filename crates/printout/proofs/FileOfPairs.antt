@@ -4,7 +4,7 @@ use Rattle.std.proofs.lemmas.Bool.{ltb-true, ltb-false, le-ltb}
 use Rattle.std.proofs.lemmas.Result.{IfOk-weaker}
 use Rattle.std.proofs.lemmas.List.{take_all, take-append-drop, replicate-append-replicate}
 use Rattle.std.proofs.lemmas.List.Concat.{flat_map-append}
-use Rattle.std.proofs.lemmas.List.Elements.{All-nil, All-head, All-tail, All-take, All-replicate}
+use Rattle.std.proofs.lemmas.List.Elements.{All-nil, All-head, All-tail, All-take}
 use Rattle.std.proofs.lemmas.List.Sums.{sum_by-append, sum_by-cons, fold-append}
 use Rattle.hosts.specs.Events.{Event, Read, Call, Reading, files_read, asked, came, asked_by, came_by, unread}
 use Rattle.hosts.specs.Traces.{nothing, next}
@@ -21,11 +21,11 @@ use Rattle.inspection.specs.PairBytes.{number_of, offers_in}
 use Rattle.inspection.specs.Sheets.{sheet_in, Sheet}
 use Rattle.inspection.specs.States.{State, core_at_start}
 use Rattle.printout.specs.Outcomes.{same_file}
-use Rattle.printout.specs.Progress.{Made, told_of, Tells, TellsPairs, Offers, pairs_came, PieceCame, CameTo, TellsFile, OffersFile, Listed, Begins, Reportable, only_text, nothing_told, ◌⊕◌, told_by, LeavesUntold, TellsText, TellsPieces, plan_told, Ends, Comes, FitsFile, HoldsPlan, AfterStep}
+use Rattle.printout.specs.Progress.{NotRead, Made, told_of, Tells, TellsPairs, Offers, pairs_came, PieceCame, CameTo, TellsFile, OffersFile, Listed, Begins, Reportable, only_text, nothing_told, ◌⊕◌, told_by, LeavesUntold, TellsText, TellsPieces, plan_told, Ends, Comes, FitsFile, HoldsPlan, AfterStep}
 use Rattle.printout.specs.Walks.{Walk, offered, walked, Found, depth, places, just_opened, refusal_lines, refused_pairs}
 use Rattle.printout.specs.declared.plan_files.PlanFile.{PlanFile}
 use Rattle.printout.specs.declared.plan_files.PlanFile.TheVariants.{Pairs, Sheet as SheetFile, Step as StepFile}
-use Rattle.printout.proofs.Telling.{quiet, tells_then, told_assoc, told_nothing, tells_behind, never_reads, unread_untold, told_print}
+use Rattle.printout.proofs.Telling.{none_read, only_pairs, quiet, tells_then, told_assoc, told_nothing, tells_behind, never_reads, unread_untold, told_print}
 use Rattle.sheet.specs.Checks.{first_fit}
 use Rattle.sheet.proofs.FirstFit.{past}
 use Rattle.motion.specs.Rows.{delivered}
@@ -62,12 +62,8 @@ first_pairs false es all full fits =
     let later = drop (asked (same_file Pairs) es) all in
     (offers_in later, ap offers_in (sym (take-append-drop (asked (same_file Pairs) es) all) ∙ ap (λ l. l ++ later) (sym fits)) ∙ whole_pairs (came (same_file Pairs) es) later full.1)
 
-pub none_of : {X : Type 0} (P : X → Type 0) (xs ys : List X) → xs ++ ys ≡ [] → All P xs
-none_of P [] ys none = All-nil P
-none_of P (x ∷ xs) ys none = cc
-
 -- ---- of events that do not read it nothing comes
-module _ (es gs : List (Event PlanFile)) (none : All (λ f. same_file Pairs f ≡ false) (files_read gs)) where
+module _ (es gs : List (Event PlanFile)) (none : NotRead Pairs gs) where
   pub came_quiet : came (same_file Pairs) (es ++ gs) ≡ came (same_file Pairs) es
   came_quiet = flat_map-append (came_by (same_file Pairs)) es gs ∙ ap (λ l. came (same_file Pairs) es ++ l) (not_came (same_file Pairs) gs none) ∙ append-nil (came (same_file Pairs) es)
 
@@ -76,7 +72,7 @@ module _ (es gs : List (Event PlanFile)) (none : All (λ f. same_file Pairs f �
 
 -- ---- a piece is read after full ones, and then nothing of the file
 module _ (es gs : List (Event PlanFile)) (size : ℕ) (chunk : List ℕ) (is_last : Bool) (full : CameTo false es) (whole : size % 4 ≡ 0) (few : length chunk ≤ size) (last : nat_lt (length chunk) size ≡ is_last)
-    (none : All (λ f. same_file Pairs f ≡ false) (files_read gs)) where
+    (none : NotRead Pairs gs) where
   abbrev read : List (Event PlanFile)
   read = Read Pairs size chunk ∷ []
 
@@ -163,7 +159,7 @@ module _ {S E : Type 0} (does : S → Event PlanFile → S → Type 0) (fails : 
       ran_after does fails (TellsFile set d ps fs w is_last u) (TellsPairs set d ps fs v (offers_in chunk) u) h j k (a.events ++ read) (next (Read Pairs size chunk) a.went did)
       (λ gs how b.
       let all = (a.events ++ read) ++ gs in
-      let none = none_of (λ f. same_file Pairs f ≡ false) (files_read gs) (unread_by how) b.0.files in
+      let none = none_read Pairs gs how b.0.files in
       let on : end ≡ walked set sheet w (pairs_came all) =
       sym (fold-append (offered set sheet) w (pairs_came a.events) (offers_in chunk))
       ∙ ap (walked set sheet w) (sym (whole_pairs (came (same_file Pairs) a.events) chunk full.1) ∙ ap offers_in (sym (all_came a.events gs size chunk is_last full whole few last none))) in (
@@ -290,7 +286,7 @@ module _ (p : Plan) (d : Draft) (ps : List Point) (fs : List Face) (h : HoldsPla
       where
         whole_walk : over (pairs_came es) ≡ walk p
         whole_walk =
-            let none = none_of (λ f. same_file Pairs f ≡ false) (files_read gs) (unread_by how) quiet in
+            let none = none_read Pairs gs how quiet in
             let all = came p.pairs (sym (came_quiet es gs none) ∙ fits ∙ ap (λ n. take n p.pairs) (asked_quiet es gs none)) in
             same_walk (pairs_came es) ∙ ap (λ bytes. walked delivered (sheet p) (just_opened (draft p)) (offers_in bytes)) (sym all)
 
@@ -306,9 +302,6 @@ module _ (p : Plan) (d : Draft) (ps : List Point) (fs : List Face) (h : HoldsPla
             record { told = untold; read = refl; ending = complete ∙ ap (λ o. o.ending) (sym made); complete = (λ c. h.no_fault, λ none. complete); claim = claim found }
 
 -- ---- from its opening on
-only_pairs : (f : PlanFile) (n : ℕ) (files : List PlanFile) → same_file f Pairs ≡ false → files ≡ replicate n Pairs → All (λ g. same_file f g ≡ false) files
-only_pairs f n files other is = subst (All (λ g. same_file f g ≡ false)) (sym is) (All-replicate (λ g. same_file f g ≡ false) n Pairs other)
-
 module _ {S E : Type 0} (does : S → Event PlanFile → S → Type 0) (fails : S → Call PlanFile → E → S → Type 0) (d : Draft) (ps : List Point) (fs : List Face)
     (s t : State) (h m : S) (begun : Begins d s) (points : d.points ≤ length ps) (faces : d.faces ≤ length fs) where
   start : Made delivered d ps fs (just_opened d) s
@@ -320,8 +313,8 @@ module _ {S E : Type 0} (does : S → Event PlanFile → S → Type 0) (fails : 
   ran_in_part e r offers is =
       ran_short does fails (AfterStep d ps fs) (TellsFile delivered d ps fs (just_opened d) true t) h m e r is
       (λ es call (told, none). (
-        only_pairs SheetFile told.pieces (files_read es ++ unread call) refl told.tells.files,
-        only_pairs StepFile told.pieces (files_read es ++ unread call) refl told.tells.files,
+        only_pairs {X = Unit {0}} SheetFile told.pieces es (Err call) refl told.tells.files,
+        only_pairs {X = Unit {0}} StepFile told.pieces es (Err call) refl told.tells.files,
         λ p holds fits. stops_offering p d ps fs holds es call told fits,
       ))
       (offers d (just_opened d) start)
@@ -343,8 +336,8 @@ module _ {S E : Type 0} (does : S → Event PlanFile → S → Type 0) (fails : 
         ran_after does fails (AfterStep d ps fs) (TellsText (report_in ps fs t) (λ end. (end ≡ Complete) × Findings delivered t)) h m k a.events a.went
         (λ gs how report.
         let all = tells_then told.pieces 0 nothing_told (told_of w) (told_of w ⊕ text) a.events gs tt how told.tells (tells_behind 0 (told_of w) text gs how report.0) in (
-          only_pairs SheetFile (told.pieces + 0) (files_read (a.events ++ gs) ++ unread_by how) refl all.files,
-          only_pairs StepFile (told.pieces + 0) (files_read (a.events ++ gs) ++ unread_by how) refl all.files,
+          only_pairs SheetFile (told.pieces + 0) (a.events ++ gs) how refl all.files,
+          only_pairs StepFile (told.pieces + 0) (a.events ++ gs) how refl all.files,
           λ p holds. comes_reported p d ps fs holds a.events gs how t a.good.1.1 (subst (λ b. CameTo b a.events) a.good.1.0 told.came) (told.pieces + 0) all report.0.files report.1,
         ))
         r (told_print does fails (λ end. (end ≡ Complete) × Findings delivered t) m k (report_in ps fs t) r print found)

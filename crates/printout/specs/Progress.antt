@@ -187,9 +187,9 @@ pub record Comes (p : Plan) (needed_in : ℕ → List PlanFile) (es : List (Even
 abbrev pub FitsFile : PlanFile → List ℕ → List (Event PlanFile) → Type 0
 FitsFile f bytes es = came (same_file f) es ≡ take (asked (same_file f) es) bytes
 
--- a file is not read, nor can that fail
-abbrev pub NotRead : PlanFile → List (Event PlanFile) → Result Ending (Call PlanFile) → Type 0
-NotRead f es how = All (λ g. same_file f g ≡ false) (files_read es ++ unread_by how)
+-- a file is not read
+abbrev pub NotRead : PlanFile → List (Event PlanFile) → Type 0
+NotRead f es = All (λ g. same_file f g ≡ false) (files_read es)
 
 -- after the step
 -- these tables hold the sheet of a plan that has no fault
@@ -201,7 +201,7 @@ pub record HoldsPlan (p : Plan) (d : Draft) (ps : List Point) (fs : List Face) :
 abbrev pub AfterStep : Draft → List Point → List Face
     → List (Event PlanFile) → Result Ending (Call PlanFile) → Type 0
 AfterStep d ps fs es how =
-    NotRead SheetFile es how × NotRead Step es how
+    NotRead SheetFile es × NotRead Step es
     × ((p : Plan) → HoldsPlan p d ps fs → FitsFile Pairs p.pairs es
     → Comes p (λ n. replicate n Pairs) es how)
 
@@ -219,6 +219,6 @@ after_sheet p n = Step ∷ files_after (step_fault p) (replicate n Pairs)
 abbrev pub AfterSheet : Draft → List Point → List Face
     → List (Event PlanFile) → Result Ending (Call PlanFile) → Type 0
 AfterSheet d ps fs es how =
-    NotRead SheetFile es how
+    NotRead SheetFile es
     × ((p : Plan) → HoldsSheet p d ps fs → FitsFile Step p.step es → FitsFile Pairs p.pairs es
     → Comes p (after_sheet p) es how)
