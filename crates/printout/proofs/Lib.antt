@@ -1,8 +1,5 @@
 pub mod FileByFile
-pub mod Files
+pub mod FileOfPairs
 pub mod InMemory
 pub mod Offers
-pub mod Phases
-pub mod Reported
-pub mod Rows
 pub mod Telling

@@ -1,12 +1,14 @@
 -- An offer makes one more step of the walk, and pairs are offered one after another.
-use Rattle.std.proofs.Common.{◌≡◌, ℕ, ◌+◌, ◌-◌, ◌<◌, ◌≤◌, Bool, true, false, if◌then◌else◌, ◌||◌, not, List, [], ◌∷◌, ◌++◌, length, Some, None, Option, Ok, Err, Result, IfOk, nat_lt, IsFalse, IsTrue, refl, sym, ap, ◌∙◌, subst, arith, length-drop, length-append, length-take, take, append_assoc, append-nil, All}
+use Rattle.std.proofs.Common.{◌≡◌, ℕ, ◌+◌, ◌-◌, ◌≤◌, Bool, false, if◌then◌else◌, ◌||◌, List, [], ◌∷◌, ◌++◌, length, Some, None, Option, Ok, Err, Result, IfOk, nat_lt, IsTrue, refl, sym, ap, ◌∙◌, subst, arith, length-drop, append_assoc, append-nil, All}
 use Rattle.std.proofs.lemmas.Bool.Decides.{nat_tests}
-use Rattle.std.proofs.lemmas.Bool.{ltb-false, leb-false, not-false}
-use Rattle.std.proofs.lemmas.List.{length-map}
+use Rattle.std.proofs.lemmas.Bool.{or_parts, ltb-false}
 use Rattle.std.proofs.lemmas.List.Concat.{flat_map-append}
 use Rattle.std.proofs.lemmas.List.Sums.{fold-append}
+use Rattle.inspection.specs.Claims.{OfSheet}
 use Rattle.inspection.proofs.Inside.{VfIn, EeIn, after_all, vf_in, ee_in}
-use Rattle.sheet.proofs.FirstFit.{none_parts, no_fit, none_fits}
+use Rattle.inspection.proofs.Moments.{OfferFacts, moment}
+use Rattle.std.proofs.lemmas.List.Elements.{All-head, All-tail}
+use Rattle.sheet.proofs.FirstFit.{none_parts, no_fit}
 use Rattle.sheet.specs.Checks.{first_fit, fault_notice}
 use Rattle.sheet.specs.declared.notices.Layer.TheVariants.{Offer}
 use Rattle.sheet.specs.declared.notices.Notice.{Notice}
@@ -14,46 +16,37 @@ use Rattle.sheet.specs.declared.drafts.Draft.{Draft}
 use Rattle.sheet.specs.declared.rows.Point.{Point}
 use Rattle.sheet.specs.declared.rows.Face.{Face}
 use Rattle.motion.specs.declared.shapes.Shape.{Shape}
-use Rattle.inspection.specs.declared.classes.Class.{Class}
-use Rattle.inspection.specs.declared.classes.Class.TheVariants.{Kept, Struck, Shared, Repeated}
 use Rattle.inspection.specs.declared.faults.OfferFault.{OfferFault}
-use Rattle.inspection.specs.Classes.{Rules, rules_at, class_of, entries_with, entries_after}
+use Rattle.inspection.specs.Classes.{rules_at}
 use Rattle.inspection.specs.Faults.{check, notice_of_offer}
 use Rattle.inspection.specs.Lists.{Contents, with_entries}
 use Rattle.inspection.specs.declared.offerings.Offering.{Offering}
 use Rattle.inspection.specs.declared.offerings.Offering.TheVariants.{Faces}
-use Rattle.inspection.specs.Offers.{lacks_rows, pair_checks, offer_checks, room_check, entries_by, state_after, OfferStep}
+use Rattle.inspection.specs.Offers.{pair_checks, offer_checks, room_check, entries_by, state_after, OfferStep}
 use Rattle.inspection.specs.Runs.{Run, offered as run_offered}
-use Rattle.inspection.specs.Sheets.{Sheet, sheet_in, face_at, moving_of}
+use Rattle.inspection.specs.Sheets.{Sheet, sheet_in}
 use Rattle.inspection.specs.States.{State}
-use Rattle.inspection.specs.Tests.{Naming, corners_below, corners_inside, vf_naming, ee_naming}
+use Rattle.inspection.specs.Tests.{Naming, vf_naming, ee_naming}
 use Rattle.hosts.specs.Events.{Event, Call}
 use Rattle.hosts.specs.Traces.{nothing}
 use Rattle.hosts.proofs.Ran.{ran_after, ran_short}
 use Rattle.printout.specs.Printouts.{notice_line}
-use Rattle.printout.specs.Progress.{Lists, found_in, Made, Told, nothing_told, ◌⊕◌, told_of, refusal_told, Tells, Refuses, Offered, Offers}
+use Rattle.printout.specs.Progress.{Listed, found_in, Made, Told, nothing_told, ◌⊕◌, told_of, refusal_told, Tells, Refuses, TellsPairs, Offers}
 use Rattle.printout.specs.Walks.{Walk, places, pair_bytes, is_full, refusal, found_after, vf_after, ee_after, sorted_in, offered, walked, refusal_lines, refused_pairs}
 use Rattle.printout.specs.declared.plan_files.PlanFile.{PlanFile}
 use Rattle.printout.proofs.Telling.{told_nothing, told_assoc, quiet, tells_then, tells_behind, tells_short}
 
--- a list only grows
-grows_with : {E : Type 0} (k : Class) (es : List E) (e : E) → length es ≤ length (entries_with k es e)
-grows_with Kept es e = omega (arith, length-append es (e ∷ []))
-grows_with Struck es e = omega arith
-grows_with Shared es e = omega arith
-grows_with Repeated es e = omega arith
-
-grows : {E : Type 0} (r : Rules E) (es tests : List E) → length es ≤ length (entries_after r es tests)
-grows r es [] = omega arith
-grows r es (e ∷ tests) = omega (arith, grows_with (class_of r es e) es e, grows r (entries_with (class_of r es e) es e) tests)
-
-neither : (a b : Bool) → (a || b) ≡ false → (a ≡ false) × (b ≡ false)
-neither true b e = (e, cc)
-neither false b e = (refl, e)
-
 if_ok : {X C A : Type 0} → A → (how : Result X C) → IfOk how (λ x. A)
 if_ok a (Ok x) = a
 if_ok a (Err c) = tt
+
+last_of : {X : Type 0} (P : X → Type 0) (xs : List X) (x : X) → All P (xs ++ (x ∷ [])) → P x
+last_of P [] x all = All-head P x [] all
+last_of P (y ∷ ys) x all = last_of P ys x (All-tail P y (ys ++ (x ∷ [])) all)
+
+-- the tests of two faces of the sheet have numbers of the sheet
+tests_inside : (sheet : Sheet) (o : Offering) → OfSheet sheet o → All (VfIn sheet) (vf_naming.tests sheet o) × All (EeIn sheet) (ee_naming.tests sheet o)
+tests_inside sheet (Faces f g) a = (vf_in sheet f g a.first a.second a.first_corners a.second_corners, ee_in sheet f g a.first a.second a.first_corners a.second_corners)
 
 -- fewer free places than new entries: more entries than places
 room : (n r m : ℕ) → n + r ≡ places → nat_lt r (m - n) ≡ nat_lt places m
@@ -64,39 +57,14 @@ module _ (set : Shape → Bool) (ps : List Point) (fs : List Face) (o : Offering
   here = sheet_in s.core.draft ps fs
 
   -- a list after an offer for which it has room
-  lists_after : {E : Type 0} (n : Naming E) (list : Contents E) → Lists n here list → All (λ e. IsTrue (n.inside here e)) (n.tests here o)
-      → nat_lt places (length (entries_by n set s.core.depth here o list.entries)) ≡ false → Lists n here (with_entries (entries_by n set s.core.depth here o list.entries) list)
-  lists_after n list l new fits =
+  lists_after : {E : Type 0} (n : Naming E) (list : Contents E) → let after = entries_by n set s.core.depth here o list.entries in
+      Listed n here list → All (λ e. IsTrue (n.inside here e)) (n.tests here o) → length list.entries ≤ length after → nat_lt places (length after) ≡ false → Listed n here (with_entries after list)
+  lists_after n list l new more fits =
       let after = entries_by n set s.core.depth here o list.entries in
-      let rules = rules_at n set s.core.depth here in
       record {
-        room = omega (arith, l.room, length-drop (length after - length list.entries) list.rest, ltb-false places (length after) fits, grows rules list.entries (n.tests here o));
-        inside = after_all rules (λ e. IsTrue (n.inside here e)) list.entries (n.tests here o) l.inside new;
+        room = omega (arith, l.room, length-drop (length after - length list.entries) list.rest, ltb-false places (length after) fits, more);
+        inside = after_all (rules_at n set s.core.depth here) (λ e. IsTrue (n.inside here e)) list.entries (n.tests here o) l.inside new;
       }
-
-  -- a pair that fits no check has tests of the sheet
-  tests_inside : IsFalse (lacks_rows s.core.draft ps fs) → first_fit (pair_checks s.core.draft here o s.core.accepted) ≡ None
-      → All (VfIn here) (vf_naming.tests here o) × All (EeIn here) (ee_naming.tests here o)
-  tests_inside rows none = inside o none
-    where
-      short : (nat_lt (length ps) s.core.draft.points ≡ false) × (nat_lt (length fs) s.core.draft.faces ≡ false)
-      short = neither (nat_lt (length ps) s.core.draft.points) (nat_lt (length fs) s.core.draft.faces) rows
-
-      points : s.core.draft.points ≡ length here.points
-      points = omega (arith, length-map (take s.core.draft.points ps) moving_of, length-take s.core.draft.points ps, ltb-false (length ps) s.core.draft.points short.0)
-
-      faces : s.core.draft.faces ≡ length here.faces
-      faces = omega (arith, length-take s.core.draft.faces fs, ltb-false (length fs) s.core.draft.faces short.1)
-
-      corners : (f : ℕ) → not (corners_below s.core.draft.points (face_at here f)) ≡ false → corners_inside here (face_at here f) ≡ true
-      corners f below = ap (λ k. corners_below k (face_at here f)) (sym points) ∙ not-false (corners_below s.core.draft.points (face_at here f)) below
-
-      inside : (o : Offering) → first_fit (pair_checks s.core.draft here o s.core.accepted) ≡ None → All (VfIn here) (vf_naming.tests here o) × All (EeIn here) (ee_naming.tests here o)
-      inside (Faces f g) none =
-          let p = none_fits (pair_checks s.core.draft here (Faces f g) s.core.accepted) none in
-          let hf : f < length here.faces = omega (arith, faces, leb-false s.core.draft.faces f p.0) in
-          let hg : g < length here.faces = omega (arith, faces, leb-false s.core.draft.faces g p.1.0) in
-          (vf_in here f g hf hg (corners f p.1.1.1.0) (corners g p.1.1.1.1.0), ee_in here f g hf hg (corners f p.1.1.1.0) (corners g p.1.1.1.1.0))
 
   module _ (d : Draft) (w : Walk) (m : Made set d ps fs w s) where
     abbrev sheet : Sheet
@@ -118,29 +86,23 @@ module _ (set : Shape → Bool) (ps : List Point) (fs : List Face) (o : Offering
     sorted : (r : Result (Unit {0}) OfferFault) (t : State) → OfferStep set ps fs o s r t → Made set d ps fs (sorted_in set sheet w o (fault_notice notice_of_offer r)) t
     sorted (Err e) t step =
         subst (Made set d ps fs (sorted_in set sheet w o (Some (notice_of_offer e)))) (sym step.state)
-        (record {
-          draft = m.draft;
-          found = m.found;
-          rows = m.rows;
-          vf = m.vf;
-          ee = m.ee;
-          run = run_offered ps fs o (Err e) s m.run (λ rows. refl) (record { fault = step.fault; state = refl });
-        })
+        (record { draft = m.draft; found = m.found; rows = m.rows; vf = m.vf; ee = m.ee; run = m.run })
     sorted (Ok u) t step =
-        let checks = pair_checks s.core.draft here o s.core.accepted in
         let full = check (is_full set here o (found_in s)) 21 Offer 0 in
-        let none = none_parts checks (full ∷ []) (sym same_refusal ∙ sym step.fault) in
-        let fits = neither (nat_lt places (length (vf_after set here o (found_in s)))) (nat_lt places (length (ee_after set here o (found_in s)))) (no_fit full [] none.1).0 in
-        let new = tests_inside m.rows none.0 in
+        let none = none_parts (pair_checks s.core.draft here o s.core.accepted) (full ∷ []) (sym same_refusal ∙ sym step.fault) in
+        let fits = or_parts (nat_lt places (length (vf_after set here o (found_in s)))) (nat_lt places (length (ee_after set here o (found_in s)))) (no_fit full [] none.1).0 in
         let after = state_after set here o s in
         let run = run_offered ps fs o (Ok u) after m.run (λ rows. refl) (record { fault = step.fault; state = refl }) in
+        let before = moment set s.core.draft here m.run in
+        let now = moment set s.core.draft here run in
+        let new = tests_inside here o (last_of (OfferFacts here) w.accepted (record { what = o; depth = s.core.depth }) now.each).of_sheet in
         subst (Made set d ps fs (sorted_in set sheet w o None)) (sym step.state)
         (record {
           draft = m.draft;
           found = λ i. found_after set (sheet_in (m.draft i) ps fs) o (m.found i);
           rows = m.rows;
-          vf = lists_after vf_naming s.vf m.vf new.0 fits.0;
-          ee = lists_after ee_naming s.ee m.ee new.1 fits.1;
+          vf = lists_after vf_naming s.vf m.vf new.0 (omega (arith, before.vf.counts.kept, now.vf.counts.kept)) fits.0;
+          ee = lists_after ee_naming s.ee m.ee new.1 (omega (arith, before.ee.counts.kept, now.ee.counts.kept)) fits.1;
           run = subst (λ k. Run set s.core.draft here (w.accepted ++ (record { what = o; depth = k } ∷ [])) after) (ap (λ f. f.core.depth) m.found) run;
         })
 
@@ -186,7 +148,7 @@ module _ {S E : Type 0} (does : S → Event PlanFile → S → Type 0) (fails : 
     offer_refused X h h' e n step why r work d w m =
         let sheet = sheet_in d ps fs in
         let is = ap (λ k. told_of (sorted_in set sheet w o k)) (sym (refuses set ps fs o s d w m (Err e) t step)) ∙ ap (λ k. told_of (sorted_in set sheet w o (Some k))) (sym why) ∙ told_refused set sheet w o n in
-        ran_after does fails (Offered set d ps fs w (o ∷ []) t) (Tells 0 nothing_told (refusal_told n o)) h h h' [] nothing
+        ran_after does fails (TellsPairs set d ps fs w (o ∷ []) t) (Tells 0 nothing_told (refusal_told n o)) h h h' [] nothing
         (λ es how told. (subst (λ k. Tells 0 (told_of w) k es how) (sym is) (tells_behind 0 (told_of w) (refusal_told n o) es how told), if_ok (made set ps fs o s d w m (Err e) t step) how))
         r work
 
@@ -201,7 +163,7 @@ module _ {S E : Type 0} (does : S → Event PlanFile → S → Type 0) (fails : 
       let sheet = sheet_in d ps fs in
       let v = walked set sheet w os in
       let a = first d w m in
-      ran_after does fails (Offered set d ps fs w (os ++ more) u) (Offered set d ps fs v more u) h i j a.events a.went
+      ran_after does fails (TellsPairs set d ps fs w (os ++ more) u) (TellsPairs set d ps fs v more u) h i j a.events a.went
       (λ es how b.
       subst (λ k. Tells 0 (told_of w) (told_of k) (a.events ++ es) how × IfOk how (λ x. Made set d ps fs k u)) (sym (fold-append (offered set sheet) w os more))
       (tells_then 0 0 (told_of w) (told_of v) (told_of (walked set sheet v more)) a.events es tt how a.good.0 b.0, b.1))
@@ -218,6 +180,6 @@ module _ {S E : Type 0} (does : S → Event PlanFile → S → Type 0) (fails : 
       let on = goes_on set sheet before later in
       let pairs : all ≡ tried ++ later = parts ∙ sym (append_assoc os (o ∷ []) later) in
       let end = ap (λ l. told_of (walked set sheet w l)) pairs ∙ ap told_of (fold-append (offered set sheet) w tried later) ∙ on.1 in
-      ran_short does fails (Offered set d ps fs w all v) (Offered set d ps fs w tried u) h j e r is
+      ran_short does fails (TellsPairs set d ps fs w all v) (TellsPairs set d ps fs w tried u) h j e r is
       (λ es call told. (tells_short (told_of w) (told_of before) on.0 (told_of (walked set sheet w all)) es call end told.0, tt))
       (offers_then os (o ∷ []) s t u h i j (Err e) first second d w m)

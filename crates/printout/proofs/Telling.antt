@@ -1,16 +1,18 @@
 -- What is told, piece by piece.
-use Rattle.std.proofs.Common.{◌≡◌, ℕ, ◌+◌, List, [], ◌∷◌, ◌++◌, replicate, Ok, Err, Result, IfOk, MatchResult, refl, sym, ap, ◌∙◌, subst, append_assoc, append-nil}
+use Rattle.std.proofs.Common.{◌≡◌, ℕ, ◌+◌, false, All, List, [], ◌∷◌, ◌++◌, replicate, Ok, Err, Result, IfOk, MatchResult, refl, sym, ap, ◌∙◌, subst, append_assoc, append-nil}
 use Rattle.std.proofs.lemmas.List.{replicate-append-replicate}
 use Rattle.std.proofs.lemmas.List.Concat.{flat_map-append}
-use Rattle.hosts.specs.Events.{Event, Stored, Call, Reading, Printing, Storing, files_read, unread, printed_by, stored_by, file_read_by}
+use Rattle.std.proofs.lemmas.List.Elements.{All-cons, All-nil, All-head, All-tail, All-replicate}
+use Rattle.hosts.specs.Events.{Event, Stored, Call, Reading, Storing, files_read, unread, printed_by, stored_by, file_read_by}
 use Rattle.hosts.specs.Traces.{nothing, next, CutOff}
 use Rattle.hosts.specs.Works.{Ran, unread_by, Stopped, IsPrintedInPart, Prints}
 use Rattle.hosts.proofs.Histories.{prints_store_nothing, prints_read_nothing}
 use Rattle.hosts.proofs.Ran.{ran_after, ran_short}
 use Rattle.sheet.specs.declared.notices.Notice.{Notice}
 use Rattle.inspection.specs.declared.offerings.Offering.{Offering}
+use Rattle.printout.specs.Outcomes.{same_file}
 use Rattle.printout.specs.Printouts.{notice_line}
-use Rattle.printout.specs.Progress.{Told, only_text, nothing_told, ◌⊕◌, told_by, refusal_told, LeavesUntold, Tells, TellsText, Refuses}
+use Rattle.printout.specs.Progress.{Told, only_text, nothing_told, ◌⊕◌, told_by, refusal_told, LeavesUntold, Tells, TellsText, Refuses, NotRead}
 use Rattle.printout.specs.Walks.{pair_bytes}
 use Rattle.printout.specs.declared.plan_files.PlanFile.{PlanFile}
 use Rattle.printout.specs.declared.plan_files.PlanFile.TheVariants.{Pairs}
@@ -29,11 +31,22 @@ some_read (g ∷ files) f none = cc
 pub never_reads : {X : Type 0} (es : List (Event PlanFile)) (how : Result X (Call PlanFile)) (f : PlanFile) → files_read es ++ unread_by how ≡ [] → unread_by how ≡ f ∷ [] → ⊥
 never_reads es how f none is = some_read (files_read es) f (ap (λ l. files_read es ++ l) (sym is) ∙ none)
 
+-- which files are not read
+front_all : {X : Type 0} (P : X → Type 0) (xs ys : List X) → All P (xs ++ ys) → All P xs
+front_all P [] ys all = All-nil P
+front_all P (x ∷ xs) ys all = All-cons P x xs (All-head P x (xs ++ ys) all) (front_all P xs ys (All-tail P x (xs ++ ys) all))
+
+pub only_pairs : {X : Type 0} (f : PlanFile) (n : ℕ) (es : List (Event PlanFile)) (how : Result X (Call PlanFile)) → same_file f Pairs ≡ false → files_read es ++ unread_by how ≡ replicate n Pairs → NotRead f es
+only_pairs f n es how other is =
+    front_all (λ g. same_file f g ≡ false) (files_read es) (unread_by how) (subst (All (λ g. same_file f g ≡ false)) (sym is) (All-replicate (λ g. same_file f g ≡ false) n Pairs other))
+
+pub none_read : {X : Type 0} (f : PlanFile) (es : List (Event PlanFile)) (how : Result X (Call PlanFile)) → files_read es ++ unread_by how ≡ [] → NotRead f es
+none_read f es how is = front_all (λ g. same_file f g ≡ false) (files_read es) (unread_by how) (subst (All (λ g. same_file f g ≡ false)) (sym is) (All-nil (λ g. same_file f g ≡ false)))
+
 -- where reading fails, all is told
 pub unread_untold : (X : Type 0) (call : Call PlanFile) (rest : Told) (f : PlanFile) → LeavesUntold {X = X} (Err call) rest → unread call ≡ f ∷ [] → rest ≡ nothing_told
 unread_untold X (Reading g) rest f untold is = untold
-unread_untold X Printing rest f untold is = cc
-unread_untold X Storing rest f untold is = cc
+unread_untold X call rest f untold is = cc
 
 told_append : (es fs : List (Event PlanFile)) → told_by (es ++ fs) ≡ told_by es ⊕ told_by fs
 told_append es fs = λ i. record { text = flat_map-append printed_by es fs i; stored = flat_map-append stored_by es fs i }
@@ -80,9 +93,8 @@ module _ {X : Type 0} where
       record { rest = t.rest ⊕ more; parts = is ∙ ap (λ l. l ⊕ more) t.parts ∙ told_assoc (a ⊕ told_by es) t.rest more; untold = untold call t.files; files = t.files }
     where
       untold : (call : Call PlanFile) → files_read es ++ unread call ≡ [] → LeavesUntold {X = Y} (Err call) (t.rest ⊕ more)
-      untold Printing none = tt
-      untold Storing none = tt
       untold (Reading f) none = absurd (some_read (files_read es) f none)
+      untold call none = tt
 
 -- ---- in the words of the calls
 module _ {S E : Type 0} (does : S → Event PlanFile → S → Type 0) (fails : S → Call PlanFile → E → S → Type 0) where

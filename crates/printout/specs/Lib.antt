@@ -3,5 +3,4 @@ pub mod Walks
 pub mod Plans
 pub mod Outcomes
 pub mod Progress
-pub mod Phases
 pub mod Memory

@@ -22,24 +22,23 @@ abbrev pub ReadsPlan : Plan → List (Event PlanFile) → Type 0
 ReadsPlan p es = Fits same_file (bytes_of p) es
 
 -- ---- a run to its end, and a run that a call stops
--- of the files that are needed, where the pairs come in so many pieces
-module _ (p : Plan) (needed_in : ℕ → List PlanFile) where
+module _ (p : Plan) where
   pub record EndsWith (es : List (Event PlanFile)) (end : Ending) : Type 0 where
     pub text : printed es ≡ (printout p).text
     pub stored : stored es ≡ (printout p).stored
     pub ending : end ≡ (printout p).ending
     -- it is complete just where sheet and step have no fault
     pub complete : (end ≡ Complete) ↔ (fault p ≡ None)
-    -- the files that are needed are read, in their order, and no others
+    -- the files that are needed are read, in their order, and no others; the pairs in so many pieces
     pub pieces : ℕ
-    pub files : files_read es ≡ needed_in pieces
+    pub files : files_read es ≡ needed p pieces
     pub claim : ClaimOfPlan p
 
   pub record StopsWith (es : List (Event PlanFile)) (call : Call PlanFile) : Type 0 where
     pub text : IsFront (printed es) (printout p).text
     pub stored : IsFront (stored es) (printout p).stored
     pub pieces : ℕ
-    pub files : IsFront (files_read es ++ unread call) (needed_in pieces)
+    pub files : IsFront (files_read es ++ unread call) (needed p pieces)
     -- where a file could not be read, all is told of the pairs that came before
     pub told : (f : PlanFile) → call ≡ Reading f
         → printed es ≡ refusal_lines (walked delivered (sheet p) (just_opened (draft p)) (offers_in (came (same_file Pairs) es)))
@@ -48,5 +47,5 @@ module _ (p : Plan) (needed_in : ℕ → List PlanFile) where
 abbrev pub Inspects : {S E : Type 0} → (S → Event PlanFile → S → Type 0)
     → (S → Call PlanFile → E → S → Type 0) → S → Result Ending E → S → Type 0
 Inspects does fails s r t =
-    Worked does fails (λ es ending. (p : Plan) → ReadsPlan p es → EndsWith p (needed p) es ending)
-    (λ es call. (p : Plan) → ReadsPlan p es → StopsWith p (needed p) es call) s r t
+    Worked does fails (λ es ending. (p : Plan) → ReadsPlan p es → EndsWith p es ending)
+    (λ es call. (p : Plan) → ReadsPlan p es → StopsWith p es call) s r t

@@ -1,6 +1,6 @@
--- How far a run has come: what is told of a walk over pairs, and the inspection that has made it.
-use Rattle.std.specs.Prelude.{◌≡◌, ℕ, ◌+◌, ◌%◌, ◌≤◌, nat_lt, Bool, true, false, IsTrue, IsFalse, IfOk, All, List, [], ◌++◌, length, take, replicate, Ok, Err, Result}
-use Rattle.hosts.specs.Events.{Event, Read, Call, Reading, Printing, Storing, printed, stored, files_read, asked, came}
+-- How far a run has come: what is told, the inspection that has made a walk, and what is left to do.
+use Rattle.std.specs.Prelude.{◌≡◌, ℕ, ◌+◌, ◌%◌, ◌≤◌, nat_lt, Bool, true, false, IsTrue, IsFalse, IfOk, All, List, [], ◌++◌, length, take, replicate, Ok, Err, Result, ◌↔◌, ◌∷◌, None}
+use Rattle.hosts.specs.Events.{Event, Read, Call, Reading, printed, stored, files_read, asked, came}
 use Rattle.hosts.specs.Works.{Ran, unread_by}
 use Rattle.sheet.specs.declared.drafts.Draft.{Draft}
 use Rattle.sheet.specs.declared.notices.Notice.{Notice}
@@ -23,11 +23,14 @@ use Rattle.printout.specs.Outcomes.{same_file}
 use Rattle.printout.specs.Printouts.{notice_line}
 use Rattle.printout.specs.Walks.{Walk, Found, places, pair_bytes, just_opened, walked, refusal_lines, refused_pairs}
 use Rattle.printout.specs.declared.plan_files.PlanFile.{PlanFile}
-use Rattle.printout.specs.declared.plan_files.PlanFile.TheVariants.{Pairs}
+use Rattle.printout.specs.declared.plan_files.PlanFile.TheVariants.{Sheet as SheetFile, Step, Pairs}
+use Rattle.printout.specs.Plans.{Plan, draft, faces, resting_points, sheet, fault, sheet_fault, step_fault, files_after, printout, ClaimOfPlan}
+use Rattle.printout.specs.declared.endings.Ending.{Ending}
+use Rattle.printout.specs.declared.endings.Ending.TheVariants.{Complete}
 
 -- ---- an inspection
 -- a list has its places, and what is listed has numbers of the sheet
-pub record Lists {E : Type 0} (n : Naming E) (sheet : Sheet) (list : Contents E) : Type 0 where
+pub record Listed {E : Type 0} (n : Naming E) (sheet : Sheet) (list : Contents E) : Type 0 where
   pub room : length list.entries + length list.rest ≡ places
   pub inside : All (λ e. IsTrue (n.inside sheet e)) list.entries
 
@@ -41,8 +44,8 @@ pub record Made
   pub draft : s.core.draft ≡ d
   pub found : found_in s ≡ w.found
   pub rows : IsFalse (lacks_rows s.core.draft ps fs)
-  pub vf : Lists vf_naming (sheet_in s.core.draft ps fs) s.vf
-  pub ee : Lists ee_naming (sheet_in s.core.draft ps fs) s.ee
+  pub vf : Listed vf_naming (sheet_in s.core.draft ps fs) s.vf
+  pub ee : Listed ee_naming (sheet_in s.core.draft ps fs) s.ee
   pub run : Run set s.core.draft (sheet_in s.core.draft ps fs) w.accepted s
 
 -- an inspection in the state s is just opened: over any tables of the draft's rows
@@ -85,8 +88,7 @@ refusal_told n o = record { text = notice_line n; stored = pair_bytes o }
 abbrev pub LeavesUntold : {X : Type 0} → Result X (Call PlanFile) → Told → Type 0
 LeavesUntold (Ok x) rest = rest ≡ nothing_told
 LeavesUntold (Err (Reading f)) rest = rest ≡ nothing_told
-LeavesUntold (Err Printing) rest = Unit {0}
-LeavesUntold (Err Storing) rest = Unit {0}
+LeavesUntold (Err call) rest = Unit {0}
 
 -- behind what was told before, the events tell all, or a front of it
 -- the file of pairs is read in so many pieces, and no other file
@@ -101,32 +103,12 @@ abbrev pub TellsText : {X : Type 0} → List ℕ → (X → Type 0) → List (Ev
     → Result X (Call PlanFile) → Type 0
 TellsText text Q es how = Tells 0 nothing_told (only_text text) es how × IfOk how Q
 
-module _ {S E X : Type 0} (does : S → Event PlanFile → S → Type 0) (fails : S → Call PlanFile → E → S → Type 0) where
-  -- why a pair is refused is printed, and the pair stored
-  unfoldable pub Refuses : Notice → Offering → S → Result X E → S → Type 0
-  Refuses n o h r h' = Ran does fails (Tells 0 nothing_told (refusal_told n o)) h r h'
-
 -- ---- pairs are offered
-module _ (set : Shape → Bool) (d : Draft) (ps : List Point) (fs : List Face) (w : Walk) where
-  -- what goes on from the walk w over these pairs is told, and has led to the state t
-  abbrev pub Offered : {X : Type 0} → List Offering → State → List (Event PlanFile) → Result X (Call PlanFile) → Type 0
-  Offered os t es how =
-      let v = walked set (sheet_in d ps fs) w os in
-      Tells 0 (told_of w) (told_of v) es how × IfOk how (λ x. Made set d ps fs v t)
-
-module _ {S E X : Type 0} (does : S → Event PlanFile → S → Type 0) (fails : S → Call PlanFile → E → S → Type 0) where
-  -- from the state s to t: whatever walk s has made, t has made it further
-  unfoldable pub Offers : (Shape → Bool) → List Point → List Face → List Offering → State → State
-      → S → Result X E → S → Type 0
-  Offers set ps fs os s t h r h' =
-      (d : Draft) (w : Walk) → Made set d ps fs w s → Ran does fails (Offered set d ps fs w os t) h r h'
-
--- ---- the pairs of the plan's file are offered as they come
--- those that came
+-- of the pairs of the plan's file, those that came
 abbrev pub pairs_came : List (Event PlanFile) → List Offering
 pairs_came es = offers_in (came (same_file Pairs) es)
 
--- the file came to its end, or so far each piece was full
+-- that file came to its end, or so far each piece was full
 abbrev pub CameTo : Bool → List (Event PlanFile) → Type 0
 CameTo true es =
     (all : List ℕ) → came (same_file Pairs) es ≡ take (asked (same_file Pairs) es) all
@@ -135,28 +117,108 @@ CameTo false es =
     (asked (same_file Pairs) es ≡ length (came (same_file Pairs) es))
     × (length (came (same_file Pairs) es) % 4 ≡ 0)
 
--- these bytes came at once, of so many that were asked for, a whole number of pairs
--- fewer bytes are the last
-unfoldable pub PieceCame : {S : Type 0} → (S → Event PlanFile → S → Type 0) → ℕ → List ℕ → Bool → S → S → Type 0
-PieceCame does size bytes is_last h h' =
-    does h (Read Pairs size bytes) h' × (size % 4 ≡ 0) × (length bytes ≤ size) × (nat_lt (length bytes) size ≡ is_last)
-
--- what goes on from the walk w to v is told
-pub record TellsFile {X : Type 0} (w v : Walk) (es : List (Event PlanFile)) (how : Result X (Call PlanFile)) : Type 0 where
+-- what goes on from the walk w to v is told, as the pieces of the file come
+pub record TellsPieces {X : Type 0} (w v : Walk) (es : List (Event PlanFile)) (how : Result X (Call PlanFile)) : Type 0 where
   pub pieces : ℕ
   pub tells : Tells pieces (told_of w) (told_of v) es how
   pub is_last : Bool
   pub came : CameTo is_last es
 
 module _ (set : Shape → Bool) (d : Draft) (ps : List Point) (fs : List Face) (w : Walk) where
-  -- the last piece has come, or not yet
-  abbrev pub OfferedFile : {X : Type 0} → Bool → State → List (Event PlanFile) → Result X (Call PlanFile) → Type 0
-  OfferedFile is_last t es how =
+  -- what goes on from the walk w over these pairs is told, and has led to the state t
+  abbrev pub TellsPairs : {X : Type 0} → List Offering → State → List (Event PlanFile) → Result X (Call PlanFile) → Type 0
+  TellsPairs os t es how =
+      let v = walked set (sheet_in d ps fs) w os in
+      Tells 0 (told_of w) (told_of v) es how × IfOk how (λ x. Made set d ps fs v t)
+
+  -- and over the pairs that came, of which the last has come, or not yet
+  abbrev pub TellsFile : {X : Type 0} → Bool → State → List (Event PlanFile) → Result X (Call PlanFile) → Type 0
+  TellsFile is_last t es how =
       let v = walked set (sheet_in d ps fs) w (pairs_came es) in
-      (told : TellsFile w v es how) × IfOk how (λ x. (told.is_last ≡ is_last) × Made set d ps fs v t)
+      (told : TellsPieces w v es how) × IfOk how (λ x. (told.is_last ≡ is_last) × Made set d ps fs v t)
 
 module _ {S E X : Type 0} (does : S → Event PlanFile → S → Type 0) (fails : S → Call PlanFile → E → S → Type 0) where
+  -- why a pair is refused is printed, and the pair stored
+  unfoldable pub Refuses : Notice → Offering → S → Result X E → S → Type 0
+  Refuses n o h r h' = Ran does fails (Tells 0 nothing_told (refusal_told n o)) h r h'
+
+  -- pairs are offered, from the state s to t: whatever walk s has made, t has made it further
+  unfoldable pub Offers : (Shape → Bool) → List Point → List Face → List Offering → State → State
+      → S → Result X E → S → Type 0
+  Offers set ps fs os s t h r h' =
+      (d : Draft) (w : Walk) → Made set d ps fs w s → Ran does fails (TellsPairs set d ps fs w os t) h r h'
+
+  -- and so are those of the file, piece by piece
   unfoldable pub OffersFile : (Shape → Bool) → List Point → List Face → Bool → State → State
       → S → Result X E → S → Type 0
   OffersFile set ps fs is_last s t h r h' =
-      (d : Draft) (w : Walk) → Made set d ps fs w s → Ran does fails (OfferedFile set d ps fs w is_last t) h r h'
+      (d : Draft) (w : Walk) → Made set d ps fs w s → Ran does fails (TellsFile set d ps fs w is_last t) h r h'
+
+-- a piece: so many bytes were asked for, a whole number of pairs; if fewer came it is the last
+unfoldable pub PieceCame : {S : Type 0} → (S → Event PlanFile → S → Type 0) → ℕ → List ℕ → Bool → S → S → Type 0
+PieceCame does size bytes is_last h h' =
+    does h (Read Pairs size bytes) h' × (size % 4 ≡ 0) × (length bytes ≤ size) × (nat_lt (length bytes) size ≡ is_last)
+
+-- ---- a run and its parts
+-- all that a plan makes it print and store
+abbrev pub plan_told : Plan → Told
+plan_told p = record { text = (printout p).text; stored = (printout p).stored }
+
+-- how a run ends; nothing is left to tell, and no file to read
+pub record Ends (p : Plan) (rest : Told) (later : List PlanFile) (end : Ending) : Type 0 where
+  pub told : rest ≡ nothing_told
+  pub read : later ≡ []
+  pub ending : end ≡ (printout p).ending
+  pub complete : (end ≡ Complete) ↔ (fault p ≡ None)
+  pub claim : ClaimOfPlan p
+
+-- what a part of a run comes to, of the files that are needed from there on
+pub record Comes (p : Plan) (needed_in : ℕ → List PlanFile) (es : List (Event PlanFile)) (how : Result Ending (Call PlanFile)) : Type 0 where
+  pub rest : Told
+  pub parts : plan_told p ≡ told_by es ⊕ rest
+  pub pieces : ℕ
+  pub later : List PlanFile
+  pub files : needed_in pieces ≡ (files_read es ++ unread_by how) ++ later
+  pub ends : IfOk how (Ends p rest later)
+  pub told : (f : PlanFile) → unread_by how ≡ f ∷ []
+      → printed es ≡ refusal_lines (walked delivered (sheet p) (just_opened (draft p)) (offers_in (came (same_file Pairs) es)))
+
+-- the first bytes of a file came, as many as were asked for
+abbrev pub FitsFile : PlanFile → List ℕ → List (Event PlanFile) → Type 0
+FitsFile f bytes es = came (same_file f) es ≡ take (asked (same_file f) es) bytes
+
+-- a file is not read
+abbrev pub NotRead : PlanFile → List (Event PlanFile) → Type 0
+NotRead f es = All (λ g. same_file f g ≡ false) (files_read es)
+
+-- after the step
+-- these tables hold the sheet of a plan that has no fault
+pub record HoldsPlan (p : Plan) (d : Draft) (ps : List Point) (fs : List Face) : Type 0 where
+  pub no_fault : fault p ≡ None
+  pub draft : d ≡ draft p
+  pub sheet : sheet_in d ps fs ≡ sheet p
+
+abbrev pub AfterStep : Draft → List Point → List Face
+    → List (Event PlanFile) → Result Ending (Call PlanFile) → Type 0
+AfterStep d ps fs es how =
+    NotRead SheetFile es × NotRead Step es
+    × ((p : Plan) → HoldsPlan p d ps fs → FitsFile Pairs p.pairs es
+    → Comes p (λ n. replicate n Pairs) es how)
+
+-- after the sheet
+-- these tables hold the sheet of a plan, at rest
+pub record HoldsSheet (p : Plan) (d : Draft) (ps : List Point) (fs : List Face) : Type 0 where
+  pub no_fault : sheet_fault p ≡ None
+  pub draft : d ≡ draft p
+  pub points : take d.points ps ≡ resting_points p
+  pub faces : take d.faces fs ≡ faces p
+
+abbrev pub after_sheet : Plan → ℕ → List PlanFile
+after_sheet p n = Step ∷ files_after (step_fault p) (replicate n Pairs)
+
+abbrev pub AfterSheet : Draft → List Point → List Face
+    → List (Event PlanFile) → Result Ending (Call PlanFile) → Type 0
+AfterSheet d ps fs es how =
+    NotRead SheetFile es
+    × ((p : Plan) → HoldsSheet p d ps fs → FitsFile Step p.step es → FitsFile Pairs p.pairs es
+    → Comes p (after_sheet p) es how)

@@ -1,5 +1,5 @@
 // Offering the pairs of a plan's file.
-ghost use Rattle.std.specs.Prelude.{◌≡◌, ◌<◌, ◌≤◌, ◌%◌, true, IsFalse, length, take, IfOk, IfErr, OnOk};
+ghost use Rattle.std.specs.Prelude.{◌≡◌, ◌<◌, ◌≤◌, ◌%◌, true, IsFalse, length, take, IfOk, IfErr};
 ghost use Rattle.sheet.specs.Sheet.{point_limit, face_limit};
 ghost use Rattle.hosts.specs.Events.{Reading};
 ghost use Rattle.hosts.specs.Works.{Prints, Ran};
@@ -7,8 +7,7 @@ ghost use Rattle.inspection.specs.Claims.{Findings};
 ghost use Rattle.inspection.specs.Lists.{contents_of, entries, without_entries};
 ghost use Rattle.inspection.specs.States.{state_of};
 ghost use Rattle.report.specs.Reports.{view_of, report_text};
-ghost use Rattle.printout.specs.Phases.{AfterStep};
-ghost use Rattle.printout.specs.Progress.{Begins, OffersFile, PieceCame, Reportable};
+ghost use Rattle.printout.specs.Progress.{Begins, OffersFile, PieceCame, Reportable, AfterStep};
 ghost use Rattle.printout.specs.Walks.{places};
 ghost use Rattle.printout.specs.declared.endings.Ending.TheVariants.{Complete};
 ghost use Rattle.printout.specs.declared.plan_files.PlanFile.TheVariants.{Pairs};
@@ -30,7 +29,7 @@ const DEPTH: u8 = 2;
 const PLACES: usize = 512;
 
 /// Offers the pairs of the plan's file, a buffer at a time.
-#[tactic(auto, using(crate::proofs::Files::begun, crate::proofs::Files::unread_piece, crate::proofs::Files::piece_offered, crate::proofs::Files::piece_cut))]
+#[tactic(auto, using(crate::proofs::FileOfPairs::begun, crate::proofs::FileOfPairs::unread_piece, crate::proofs::FileOfPairs::piece_offered, crate::proofs::FileOfPairs::piece_cut))]
 pub(crate) fn offer_file<F: Filter, H: Host<File = PlanFile>>(
     inspection: &mut Inspection<F>,
     points: &[Point],
@@ -84,7 +83,7 @@ fn read_piece<H: Host<File = PlanFile>>(pairs: &mut [u8], host: &mut H) -> Resul
 }
 
 /// The run after the step: the pairs are offered in their order, and then the report is printed.
-#[tactic(auto, using(crate::proofs::Reported::ran_in_part, crate::proofs::Reported::reportable, crate::proofs::Reported::ran))]
+#[tactic(auto, using(crate::proofs::FileOfPairs::ran_in_part, crate::proofs::FileOfPairs::reportable, crate::proofs::FileOfPairs::ran))]
 pub(crate) fn inspect_pairs<H: Host<File = PlanFile>>(
     draft: Draft,
     tables: &mut Tables,
@@ -115,7 +114,7 @@ pub(crate) fn inspect_pairs<H: Host<File = PlanFile>>(
 }
 
 /// Opens the inspection of a plan: it has made no step of its walk.
-#[tactic(auto, using(crate::proofs::Reported::made_none))]
+#[tactic(auto, using(crate::proofs::FileOfPairs::made_none))]
 fn open_plan(
     draft: Draft,
     vf: &mut List<'_, VfName>,
@@ -132,7 +131,7 @@ fn open_plan(
 }
 
 /// Prints what an inspection has found.
-#[tactic(auto, using(crate::proofs::Reported::no_faults))]
+#[tactic(auto, using(crate::proofs::FileOfPairs::no_faults))]
 fn print_found<F: Filter, H: Host<File = PlanFile>>(
     inspection: &Inspection<F>,
     points: &[Point],
@@ -146,9 +145,9 @@ fn print_found<F: Filter, H: Host<File = PlanFile>>(
     ensures printed { let v = view_of F.Filter.struck inspection.now points.now faces.now in
         let text = report_text v (entries vf.now) (entries ee.now) in
         Prints H.does H.fails text host.old result host.new }
-    ensures ending { IfOk result (λ ending. ending ≡ Complete) }
-    ensures claim { let v = view_of F.Filter.struck inspection.now points.now faces.now in
-        OnOk result (Findings v.set (state_of inspection.now vf.now ee.now)) }
+    ensures found { let v = view_of F.Filter.struck inspection.now points.now faces.now in
+        IfOk result (λ ending.
+        (ending ≡ Complete) × Findings v.set (state_of inspection.now vf.now ee.now)) }
 {
     let Ok(()) = print_report(inspection, points, faces, vf, ee, host)? else {
         unreachable!()

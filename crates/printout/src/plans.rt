@@ -3,7 +3,7 @@ ghost use Rattle.std.specs.Prelude.{◌≡◌, ◌≤◌, IfOk};
 ghost use Rattle.hosts.specs.Works.{Prints, Ran};
 ghost use Rattle.sheet.specs.Sheet.{point_limit, face_limit};
 ghost use Rattle.printout.specs.Outcomes.{Inspects};
-ghost use Rattle.printout.specs.Phases.{AfterSheet};
+ghost use Rattle.printout.specs.Progress.{AfterSheet};
 ghost use Rattle.printout.specs.Printouts.{notice_line};
 ghost use Rattle.printout.specs.declared.endings.Ending.TheVariants.{Faulty};
 
