@@ -1,5 +1,4 @@
 pub mod Coordinates
-pub mod Going
 pub mod OfferSteps
 pub mod Working
 pub mod Inside
@@ -7,7 +6,6 @@ pub mod Standing
 pub mod NamingLaws
 pub mod VfNames
 pub mod EeNames
-pub mod Befores
 pub mod Gathering
 pub mod Agreeing
 pub mod Keeping

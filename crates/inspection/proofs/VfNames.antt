@@ -1,5 +1,5 @@
 -- The names of tests of a point against a face.
-use Rattle.std.proofs.Common.{◌≡◌, ℕ, false, List, ◌++◌, Contains, refl, subst₂, ⊎_elim, arith}
+use Rattle.std.proofs.Common.{◌≡◌, ℕ, false, List, ◌++◌, length, Contains, refl, subst₂, ⊎_elim, arith}
 use Rattle.std.proofs.lemmas.List.Elements.{Contains-append_left, Contains-append_right, Contains-append_cases}
 use Rattle.inspection.specs.declared.names.VfName.{VfName}
 use Rattle.inspection.specs.Names.{vf_same_equiv}
@@ -19,7 +19,10 @@ vf-turned sheet (Faces f g) (Faces k l) a x c u =
     halves : (xs ys : List VfName) → Contains (xs ++ ys) x → Contains (ys ++ xs) x
     halves xs ys c = ⊎_elim (Contains-append_right ys xs x) (Contains-append_left ys xs x) (Contains-append_cases xs ys x c)
 
-pub vf_laws : (sheet : Sheet) → NamingLaws vf_naming sheet
+vf-many : (sheet : Sheet) (o : Offering) → length (vf_naming.tests sheet o) ≡ 6
+vf-many sheet (Faces f g) = refl
+
+pub vf_laws : (sheet : Sheet) → NamingLaws vf_naming 6 sheet
 vf_laws sheet =
     record {
       equivalence = vf_same_equiv;
@@ -27,5 +30,6 @@ vf_laws sheet =
       valid =
           λ r x.
           (omega arith, r x.point, r (face_at sheet x.face).a, r (face_at sheet x.face).b, r (face_at sheet x.face).c);
+      many = vf-many sheet;
       turned = vf-turned sheet;
     }

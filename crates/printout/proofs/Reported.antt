@@ -13,7 +13,6 @@ use Rattle.sheet.proofs.FirstFit.{past}
 use Rattle.sheet.specs.declared.drafts.Draft.{Draft}
 use Rattle.sheet.specs.declared.rows.Point.{Point}
 use Rattle.sheet.specs.declared.rows.Face.{Face}
-use Rattle.motion.specs.declared.shapes.Shape.{Shape}
 use Rattle.motion.specs.Rows.{delivered}
 use Rattle.inspection.specs.declared.kinds.ListKind.{ListKind}
 use Rattle.inspection.specs.declared.kinds.ListKind.TheVariants.{Vf, Ee}
@@ -28,7 +27,7 @@ use Rattle.inspection.specs.States.{State, Core, core_at_start}
 use Rattle.inspection.specs.Tests.{Naming, vf_naming, ee_naming}
 use Rattle.inspection.specs.PairBytes.{offers_in}
 use Rattle.report.specs.Faults.{place_of}
-use Rattle.report.specs.Reports.{View, check, checks_from, entry_checks, entry_limit, len_checks, numbered, report_text}
+use Rattle.report.specs.Reports.{View, check, checks_from, entry_checks, entry_limit, list_checks, numbered, report_text}
 use Rattle.printout.specs.Outcomes.{same_file, StopsWith}
 use Rattle.printout.specs.Phases.{FitsFile, HoldsPlan, PairsRan}
 use Rattle.printout.specs.Plans.{Plan, printout, printout_by, sheet, draft, walk, report_of}
@@ -44,19 +43,21 @@ use Rattle.printout.proofs.Telling.{goes_on}
 inside_not : (b : Bool) → IsTrue b → not b ≡ false
 inside_not b h = ap not h
 
-pub no_stray : {E : Type 0} (n : Naming E) (l : ListKind) (v : View) (i : ℕ) (es : List E) → All (λ e. IsTrue (n.inside v.sheet e)) es → first_fit (checks_from n l v i es) ≡ None
-no_stray n l v i [] all = refl
-no_stray n l v i (e ∷ es) all =
-    ap (λ b. if b then Some (check b 19 i (place_of l)).tells else first_fit (checks_from n l v (i + 1) es)) (inside_not (n.inside v.sheet e) (All-head (λ x. IsTrue (n.inside v.sheet x)) e es all))
-    ∙ no_stray n l v (i + 1) es (All-tail (λ x. IsTrue (n.inside v.sheet x)) e es all)
+no_stray : {E : Type 0} (n : Naming E) (l : ListKind) (s : Sheet) (i : ℕ) (es : List E) → All (λ e. IsTrue (n.inside s e)) es → first_fit (checks_from n l s i es) ≡ None
+no_stray n l s i [] all = refl
+no_stray n l s i (e ∷ es) all =
+    ap (λ b. if b then Some (check b 19 i (place_of l)).tells else first_fit (checks_from n l s (i + 1) es)) (inside_not (n.inside s e) (All-head (λ x. IsTrue (n.inside s x)) e es all))
+    ∙ no_stray n l s (i + 1) es (All-tail (λ x. IsTrue (n.inside s x)) e es all)
 
-pub no_faults : (v : View) (vf : List VfName) (ee : List EeName) → Reportable v vf ee → None ≡ first_fit (len_checks v vf ee)
+no_faults : (d : Draft) (ps : List Point) (fs : List Face) (vf : List VfName) (ee : List EeName) → lacks_rows d ps fs ≡ false → All (λ e. IsTrue (vf_naming.inside (sheet_in d ps fs) e)) vf
+    → All (λ e. IsTrue (ee_naming.inside (sheet_in d ps fs) e)) ee → Reportable d ps fs vf ee
 unfolding Reportable
-no_faults v vf ee (rows, (vfs, ees)) =
-    let first = no_stray vf_naming Vf v 0 (numbered vf) (All-take (λ e. IsTrue (vf_naming.inside v.sheet e)) entry_limit vf vfs) in
-    let second = no_stray ee_naming Ee v 0 (numbered ee) (All-take (λ e. IsTrue (ee_naming.inside v.sheet e)) entry_limit ee ees) in
-    sym (ap (λ b. if b then Some (check b 16 0 0).tells else first_fit (entry_checks vf_naming Vf v vf ++ entry_checks ee_naming Ee v ee)) rows
-    ∙ sym (past (entry_checks vf_naming Vf v vf) (entry_checks ee_naming Ee v ee) (sym first)) ∙ second)
+no_faults d ps fs vf ee rows vfs ees =
+    let s = sheet_in d ps fs in
+    let first = no_stray vf_naming Vf s 0 (numbered vf) (All-take (λ e. IsTrue (vf_naming.inside s e)) entry_limit vf vfs) in
+    let second = no_stray ee_naming Ee s 0 (numbered ee) (All-take (λ e. IsTrue (ee_naming.inside s e)) entry_limit ee ees) in
+    sym (ap (λ b. if b then Some (check b 16 0 0).tells else first_fit (list_checks s vf ee)) rows
+    ∙ sym (past (entry_checks vf_naming Vf s vf) (entry_checks ee_naming Ee s ee) (sym first)) ∙ second)
 
 module _ (d : Draft) (ps : List Point) (fs : List Face) where
   -- ---- an inspection that is just opened has made no step of the walk
@@ -136,11 +137,11 @@ module _ (d : Draft) (ps : List Point) (fs : List Face) where
       files-both = flat_map-append file_read_by es gs ∙ ap (λ l. files_read es ++ l) quiet ∙ append-nil (files_read es)
 
       both-text : (view : View) → (t : State) → Made delivered d ps fs (sheet_in d ps fs) end t
-          → view ≡ record { set = delivered; core = t.core; sheet = sheet_in d ps fs; lacks_rows = lacks_rows d ps fs }
+          → view ≡ record { set = delivered; core = t.core; sheet = sheet_in d ps fs }
           → report_text view t.vf.entries t.ee.entries ≡ report_of p end.found
       both-text view t m is =
           (λ i. report_text (is i) t.vf.entries t.ee.entries)
-          ∙ (λ i. report_text (record { set = delivered; core = m.core i; sheet = h.sheet i; lacks_rows = m.rows i }) (m.vf i) (m.ee i))
+          ∙ (λ i. report_text (record { set = delivered; core = m.core i; sheet = h.sheet i }) (m.vf i) (m.ee i))
 
 pub made_none : (d : Draft) (s : State) → Opened d s → s.core ≡ core_at_start d depth → length s.vf.rest ≡ places → length s.ee.rest ≡ places → Begins d s
 unfolding Begins
@@ -190,7 +191,7 @@ module _ {S E : Type 0} (does : S → Event PlanFile → S → Type 0) (fails : 
     unfolding OffersFile
     made_walk = let a = offers d (sheet_in d ps fs) (just_opened d) start in (walked delivered (sheet_in d ps fs) (just_opened d) (pairs_came a.events), a.good.1)
 
-    pub reported : (r : Result Ending E) (view : View) (k : S) → view ≡ record { set = delivered; core = t.core; sheet = sheet_in d ps fs; lacks_rows = lacks_rows d ps fs }
+    pub reported : (r : Result Ending E) (view : View) (k : S) → view ≡ record { set = delivered; core = t.core; sheet = sheet_in d ps fs }
         → Prints does fails (report_text view t.vf.entries t.ee.entries) m r k → IfOk r (λ end. end ≡ Complete) → OnOk r (Findings delivered t) → PairsRan does fails d ps fs h r k
     unfolding OffersFile
     reported (Ok end) view k is print complete found =
@@ -284,14 +285,14 @@ module _ {S E : Type 0} (does : S → Event PlanFile → S → Type 0) (fails : 
     walk_made : (w : Walk) × Made delivered d ps fs (sheet_in d ps fs) w t
     walk_made = made_walk does fails d ps fs s t start h m (Unit {0}) tt offers
 
-    pub reportable : Reportable (record { set = delivered; core = t.core; sheet = sheet_in t.core.draft ps fs; lacks_rows = lacks_rows t.core.draft ps fs }) t.vf.entries t.ee.entries
-    unfolding Reportable
-    reportable = (rows_stand d ps fs walk_made.0 t walk_made.1, (vf_listed d ps fs walk_made.0 t walk_made.1, ee_listed d ps fs walk_made.0 t walk_made.1))
+    pub reportable : Reportable t.core.draft ps fs t.vf.entries t.ee.entries
+    reportable =
+        no_faults t.core.draft ps fs t.vf.entries t.ee.entries (rows_stand d ps fs walk_made.0 t walk_made.1) (vf_listed d ps fs walk_made.0 t walk_made.1) (ee_listed d ps fs walk_made.0 t walk_made.1)
 
     pub ran : (r : Result Ending E) (k : S)
-        → Prints does fails (report_text (record { set = delivered; core = t.core; sheet = sheet_in t.core.draft ps fs; lacks_rows = lacks_rows t.core.draft ps fs }) t.vf.entries t.ee.entries) m r k
+        → Prints does fails (report_text (record { set = delivered; core = t.core; sheet = sheet_in t.core.draft ps fs }) t.vf.entries t.ee.entries) m r k
         → IfOk r (λ end. end ≡ Complete) → OnOk r (Findings delivered t) → PairsRan does fails d ps fs h r k
     ran r k printed complete found =
         let draft = same_draft d ps fs walk_made.0 t walk_made.1 in
-        reported does fails d ps fs s t start h m (Unit {0}) tt offers r (record { set = delivered; core = t.core; sheet = sheet_in t.core.draft ps fs; lacks_rows = lacks_rows t.core.draft ps fs }) k
-        (λ i. record { set = delivered; core = t.core; sheet = sheet_in (draft i) ps fs; lacks_rows = lacks_rows (draft i) ps fs }) printed complete found
+        reported does fails d ps fs s t start h m (Unit {0}) tt offers r (record { set = delivered; core = t.core; sheet = sheet_in t.core.draft ps fs }) k
+        (λ i. record { set = delivered; core = t.core; sheet = sheet_in (draft i) ps fs }) printed complete found

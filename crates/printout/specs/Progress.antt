@@ -1,7 +1,8 @@
 -- How far a run has come: what of a walk over pairs is told, and the inspection that has made it.
-use Rattle.std.specs.Prelude.{◌≡◌, ℕ, ◌+◌, Bool, IsTrue, IsFalse, All, List, [], ◌++◌, length, take, replicate, Result}
+use Rattle.std.specs.Prelude.{◌≡◌, ℕ, ◌+◌, Bool, IsTrue, IsFalse, All, List, [], ◌++◌, length, take, replicate, None, Result}
 use Rattle.hosts.specs.Events.{Event, Call, Reading, printed, stored, files_read, unread, asked, came}
 use Rattle.hosts.specs.Works.{Worked, IsFront}
+use Rattle.sheet.specs.Checks.{first_fit}
 use Rattle.sheet.specs.declared.drafts.Draft.{Draft}
 use Rattle.sheet.specs.declared.notices.Notice.{Notice}
 use Rattle.sheet.specs.declared.rows.Point.{Point}
@@ -13,11 +14,11 @@ use Rattle.inspection.specs.declared.offerings.Offering.{Offering}
 use Rattle.inspection.specs.Runs.{Run}
 use Rattle.inspection.specs.Sheets.{Sheet, sheet_in}
 use Rattle.inspection.specs.States.{State}
-use Rattle.inspection.specs.Tests.{vf_inside, ee_inside, vf_naming, ee_naming}
+use Rattle.inspection.specs.Tests.{vf_inside, ee_inside}
 use Rattle.inspection.specs.PairBytes.{offers_in}
 use Rattle.inspection.specs.declared.names.VfName.{VfName}
 use Rattle.inspection.specs.declared.names.EeName.{EeName}
-use Rattle.report.specs.Reports.{View, AllInside}
+use Rattle.report.specs.Reports.{len_checks}
 use Rattle.printout.specs.Outcomes.{same_file}
 use Rattle.printout.specs.Printouts.{notice_line}
 use Rattle.printout.specs.Walks.{Walk, places, pair_bytes, just_opened, walked, refusal_lines, refused_pairs}
@@ -48,8 +49,8 @@ Begins d s =
     → Made delivered d ps fs (sheet_in d ps fs) (just_opened d) s
 
 -- no check of a report fits: its tables are there, and what is listed is of the sheet
-unfoldable pub Reportable : View → List VfName → List EeName → Type 0
-Reportable v vf ee = IsFalse v.lacks_rows × (AllInside vf_naming v vf × AllInside ee_naming v ee)
+unfoldable pub Reportable : Draft → List Point → List Face → List VfName → List EeName → Type 0
+Reportable d ps fs vf ee = None ≡ first_fit (len_checks d ps fs vf ee)
 
 -- ---- what comes to the walk from w to v is told, or a front of it; no file is read
 pub record Tells (w v : Walk) (es : List (Event PlanFile)) : Type 0 where
