@@ -1,9 +1,12 @@
 -- What a list holds of a history's tests, up to a place in it.
-use Rattle.std.proofs.Common.{◌≡◌, ◌⊎◌, ℕ, suc, ◌<◌, Bool, true, false, cond, fold, List, [], ◌∷◌, ◌++◌, AllPairs, get_or, length, sym, refl, ◌∙◌, subst, subst₂, inl, inr, ⊎_elim, arith}
+use Rattle.std.proofs.Common.{◌≡◌, ◌⊎◌, ℕ, zero, suc, ◌<◌, Bool, true, false, ◌||◌, cond, fold, List, [], ◌∷◌, ◌++◌, All, AllPairs, Some, get_or, length, sym, refl, ap, ◌∙◌, subst, subst₂, inl, inr, ⊎_elim, arith}
+use Rattle.std.proofs.Math.Bool.{or-false}
+use Rattle.std.specs.Cmp.{IsEquivalence}
+use Rattle.std.specs.List.{list_any, slice_get}
 use Rattle.std.proofs.lemmas.Bool.{both_ways, or_cases, or_left, or_right, false≢true}
 use Rattle.std.proofs.lemmas.List.Quantifiers.{all_pairs_push}
-use Rattle.std.proofs.lemmas.List.Folds.{list_any_at}
-use Rattle.std.proofs.lemmas.Option.{slice_get_within}
+use Rattle.std.proofs.lemmas.List.Folds.{list_any-append, list_any_at}
+use Rattle.std.proofs.lemmas.Option.{slice_get_within, get_or_from_slice_get}
 use Rattle.motion.specs.declared.shapes.Shape.{Shape}
 use Rattle.motion.specs.Depths.{struck_at}
 use Rattle.inspection.specs.declared.classes.Class.TheVariants.{Kept, Struck, Shared, Repeated}
@@ -14,8 +17,31 @@ use Rattle.inspection.specs.Classes.{Rules, rules_at, class_of, entries_with, en
 use Rattle.inspection.specs.Offers.{entries_by}
 use Rattle.inspection.specs.Runs.{Accepted}
 use Rattle.inspection.specs.Claims.{PassedAt, PassedBefore, Before}
-use Rattle.inspection.proofs.Standing.{At, folded, has-push, has-same}
 use Rattle.inspection.proofs.NamingLaws.{NamingLaws}
+
+-- ---- what stands at a place of a list, and what a list has
+module _ {A : Type 0} where
+  abbrev pub At : List A → ℕ → A → Type 0
+  At xs i x = slice_get xs i ≡ Some x
+
+  -- what holds of all holds at each place
+  pub at-all : (P : A → Type 0) (xs : List A) (i : ℕ) (x : A) → All P xs → At xs i x → P x
+  at-all P xs i x all e = subst P (get_or_from_slice_get xs i x x e) (all i x (slice_get_within xs i x e))
+
+  -- what each step of a fold carries on from its place to the next
+  pub folded : {B : Type 0} (f : B → A → B) (P : ℕ → B → Type 0) (xs : List A) → ((i : ℕ) (x : A) (b : B) → At xs i x → P i b → P (suc i) (f b x)) → (b : B) → P zero b
+      → P (length xs) (fold f b xs)
+  folded f P [] step b p = p
+  folded f P (x ∷ xs) step b p = folded f (λ i. P (suc i)) xs (λ i. step (suc i)) (f b x) (step zero x b refl p)
+
+module _ {E : Type 0} (same : E → E → Bool) where
+  -- with one more
+  pub has-push : (es : List E) (x e : E) → has same e (es ++ (x ∷ [])) ≡ (has same e es || same e x)
+  has-push es x e = list_any-append (same e) es (x ∷ []) ∙ ap (λ b. has same e es || b) (or-false (same e x))
+
+  -- of two that are the same both are listed, or none
+  pub has-same : IsEquivalence same → (es : List E) (d e : E) → same d e ≡ true → has same d es ≡ has same e es
+  has-same laws es d e s = λ i. list_any (λ x. laws.congr d e x s i) es
 
 -- ---- the order of places
 -- before the next place: before this one, or at it

@@ -1,5 +1,5 @@
 -- What holds at every moment of a run.
-use Rattle.std.proofs.Common.{◌≡◌, ℕ, ◌+◌, ◌*◌, ◌≤◌, Bool, false, not, cond, ◌&&◌, count_by, nat_lt, List, [], ◌∷◌, ◌++◌, All, length, take, get_or, map, Ok, Err, sym, refl, ap, ◌∙◌, subst, ltb-false, length-append, length-take-le, arith}
+use Rattle.std.proofs.Common.{◌≡◌, ℕ, ◌+◌, ◌*◌, ◌≤◌, Bool, true, not, cond, ◌&&◌, count_by, nat_lt, List, [], ◌∷◌, ◌++◌, All, length, take, get_or, map, Ok, Err, sym, refl, ap, ◌∙◌, subst, ltb-false, length-append, length-take-le, arith}
 use Rattle.std.proofs.Math.ListN.{get_or-map}
 use Rattle.std.proofs.lemmas.List.Sums.{fold_push, sum_by_push, sum_by-cons}
 use Rattle.std.proofs.lemmas.List.Elements.{All-nil, All-push}
@@ -22,38 +22,27 @@ use Rattle.inspection.specs.Sheets.{Sheet, sheet_in, moving_of, nowhere, point_a
 use Rattle.inspection.specs.Tests.{Naming, vf_naming, ee_naming}
 use Rattle.inspection.specs.Classes.{Rules, rules_at, class_of, entries_with, entries_after, tally_after}
 use Rattle.inspection.specs.States.{Core, State}
-use Rattle.inspection.specs.Offers.{lacks_rows, entries_by, tally_by, state_after, offer_checks}
+use Rattle.inspection.specs.Offers.{entries_by, tally_by, state_after, offer_checks}
 use Rattle.inspection.specs.Runs.{depth_checks, Accepted, Brings, Run}
 use Rattle.inspection.specs.Runs.Run.{opened, depth_set, offered, asked}
 use Rattle.inspection.specs.Claims.{CountsOfKind, how_many, OfSheet}
 use Rattle.inspection.proofs.Coordinates.{in_reach}
-use Rattle.inspection.proofs.NamingLaws.{NamingLaws}
-use Rattle.inspection.proofs.VfNames.{vf_laws}
-use Rattle.inspection.proofs.EeNames.{ee_laws}
+use Rattle.inspection.proofs.NamingLaws.{NamingLaws, vf_laws, ee_laws}
 use Rattle.inspection.proofs.Gathering.{listing}
 
 -- ---- the tests of one kind
--- from entries and a tally to others so many more
-record Counted {E : Type 0} (es : List E) (t : Tally) (es' : List E) (t' : Tally) (shared struck passed all : ℕ) : Type 0 where
-  is_shared : t'.shared ≡ t.shared + shared
-  is_struck : t'.struck ≡ t.struck + struck
-  is_passed : t'.kept + t'.repeated ≡ t.kept + t.repeated + passed
-  is_kept : t'.kept + length es ≡ t.kept + length es'
-  is_all : total t' ≡ total t + all
+-- a count to which each test of an offer adds one where it passes p
+module _ {E : Type 0} (j : Rules E) where
+  tallied : (x : Tally → ℕ) (p : E → Bool) → ((es : List E) (e : E) (t : Tally) → x (with_one_more (class_of j es e) t) ≡ x t + cond (p e) 1 0)
+      → (es ts : List E) (t : Tally) → x (tally_after j es ts t) ≡ x t + count_by p ts
+  tallied x p one es [] t = omega arith
+  tallied x p one es (e ∷ ts) t =
+      let c = class_of j es e in
+      omega (arith, tallied x p one (entries_with c es e) ts (with_one_more c t), one es e t, sum_by-cons (λ e. cond (p e) 1 0) e ts)
 
-counted : {E : Type 0} (j : Rules E) (es ts : List E) (t : Tally)
-    → Counted es t (entries_after j es ts) (tally_after j es ts t) (count_by j.shared ts) (count_by (λ e. not (j.shared e) && j.struck e) ts) (count_by (λ e. not (j.shared e) && not (j.struck e)) ts) (length ts)
-counted j es [] t = record { is_shared = omega arith; is_struck = omega arith; is_passed = omega arith; is_kept = refl; is_all = omega arith }
-counted j es (x ∷ ts) t =
-    let c = class_of j es x in
-    let r = counted j (entries_with c es x) ts (with_one_more c t) in
-    record {
-      is_shared = grind (arith, r.is_shared, sum_by-cons (λ e. cond (j.shared e) 1 0) x ts);
-      is_struck = grind (arith, r.is_struck, sum_by-cons (λ e. cond (not (j.shared e) && j.struck e) 1 0) x ts);
-      is_passed = grind (arith, r.is_passed, sum_by-cons (λ e. cond (not (j.shared e) && not (j.struck e)) 1 0) x ts);
-      is_kept = grind (arith, r.is_kept, length-append es (x ∷ []));
-      is_all = grind (arith, r.is_all);
-    }
+  all_kept : (es ts : List E) (t : Tally) → (tally_after j es ts t).kept + length es ≡ t.kept + length (entries_after j es ts)
+  all_kept es [] t = refl
+  all_kept es (e ∷ ts) t = let c = class_of j es e in grind (arith, all_kept (entries_with c es e) ts (with_one_more c t), length-append es (e ∷ []))
 
 -- what is listed of them, and how they are counted
 pub record KindSoFar {E : Type 0} (n : Naming E) (each : ℕ) (set : Shape → Bool) (sheet : Sheet) (h : List Accepted) (es : List E) (t : Tally) : Type 0 where
@@ -70,15 +59,14 @@ module _ {E : Type 0} (n : Naming E) (each : ℕ) (set : Shape → Bool) (sheet 
   one_more named h o es t k =
       let j : Rules E = rules_at n set o.depth sheet in
       let ts : List E = n.tests sheet o.what in
-      let c = counted j es ts no_tests in
       record {
         entries = ap (entries_by n set o.depth sheet o.what) k.entries ∙ sym (fold_push (λ es o. entries_by n set o.depth sheet o.what es) [] h o);
-        classes = omega (arith, c.is_all, k.classes, named.many o.what, ap (λ (m : ℕ). each * m) (length_push h o));
+        classes = omega (arith, tallied j (λ t. total t) (λ e. true) (λ es e t. grind arith) es ts no_tests, k.classes, named.many o.what, ap (λ (m : ℕ). each * m) (length_push h o));
         counts = record {
-          shared = omega (arith, c.is_shared, k.counts.shared, more (λ o e. n.shared sheet e));
-          struck = omega (arith, c.is_struck, k.counts.struck, more (λ o e. not (n.shared sheet e) && struck_at set o.depth (n.shape sheet e)));
-          passed = omega (arith, c.is_passed, k.counts.passed, more (λ o e. not (n.shared sheet e) && not (struck_at set o.depth (n.shape sheet e))));
-          kept = omega (arith, c.is_kept, k.counts.kept);
+          shared = omega (arith, tallied j (λ t. t.shared) j.shared (λ es e t. grind arith) es ts no_tests, k.counts.shared, more (λ o e. n.shared sheet e));
+          struck = omega (arith, tallied j (λ t. t.struck) (λ e. not (j.shared e) && j.struck e) (λ es e t. grind arith) es ts no_tests, k.counts.struck, more (λ o e. not (n.shared sheet e) && struck_at set o.depth (n.shape sheet e)));
+          passed = omega (arith, tallied j (λ t. t.kept + t.repeated) (λ e. not (j.shared e) && not (j.struck e)) (λ es e t. grind arith) es ts no_tests, k.counts.passed, more (λ o e. not (n.shared sheet e) && not (struck_at set o.depth (n.shape sheet e))));
+          kept = omega (arith, all_kept j es ts no_tests, k.counts.kept);
         };
       }
     where
@@ -110,10 +98,6 @@ offer_facts set s ps fs (Faces f g) low (a, (b, (c, (d, (e, (k, r)))))) =
       };
     }
 
--- what does not fit
-tables-there : (set : Shape → Bool) (ps : List Point) (fs : List Face) (w : Offering) (s : State) → NoneFits (offer_checks set ps fs w s) → lacks_rows s.core.draft ps fs ≡ false
-tables-there set ps fs (Faces f g) s n = n.0
-
 -- ---- the whole
 pub record Moment (set : Shape → Bool) (d : Draft) (sheet : Sheet) (h : List Accepted) (core : Core) (vfs : List VfName) (ees : List EeName) : Type 0 where
   pub draft : core.draft ≡ d
@@ -139,7 +123,7 @@ module _ (set : Shape → Bool) (d : Draft) (sheet : Sheet) where
       let m : At h s = moment run in
       let o : Accepted = record { what = w; depth = s.core.depth } in
       let none = none_fits (offer_checks set ps fs w s) (sym a.fault) in
-      let brought : sheet_in s.core.draft ps fs ≡ sheet = subst (λ (x : Draft). Brings x ps fs sheet) (sym m.draft) b (tables-there set ps fs w s none) in
+      let brought : sheet_in s.core.draft ps fs ≡ sheet = subst (λ (x : Draft). Brings x ps fs sheet) (sym m.draft) b none.0 in
       subst (At (h ++ (o ∷ []))) (ap (λ (x : Sheet). state_after set x w s) (sym brought) ∙ sym a.state)
       (record {
         draft = m.draft;
