@@ -1,5 +1,5 @@
 -- Cases worked out by hand, as one statement about the rules.
-use Rattle.std.specs.Prelude.{◌≡◌, ℕ, ◌≤◌, List, [], ◌∷◌, Some, None, Option, ℤ, pos, neg_ℤ, codes}
+use Rattle.std.specs.Prelude.{◌≡◌, ℕ, List, [], ◌∷◌, All, Some, None, Option, ℤ, pos, neg_ℤ, codes}
 use Rattle.sheet.specs.Checks.{first_fit}
 use Rattle.sheet.specs.Lines.{numbered}
 use Rattle.sheet.specs.Sheet.{point_limit, face_limit, points_in, sheet_checks}
@@ -51,11 +51,12 @@ sheet_with p =
 abbrev pub vf_name : VfName
 vf_name = record { point = 3; face = 0 }
 
--- the test of that name is kept, with the delivered filter at any depth and an empty list
-abbrev pub IsKeptAtAnyDepth : Sheet → Type 0
-IsKeptAtAnyDepth s =
-    (depth : ℕ) → depth ≤ 6
-    → class_of (rules_at vf_naming delivered depth s) [] vf_name ≡ Kept
+-- the test of that name is kept, with the delivered filter at a depth and an empty list
+abbrev pub IsKeptAt : Sheet → ℕ → Type 0
+IsKeptAt s depth = class_of (rules_at vf_naming delivered depth s) [] vf_name ≡ Kept
+
+abbrev pub depths : List ℕ
+depths = 0 ∷ 1 ∷ 2 ∷ 3 ∷ 4 ∷ 5 ∷ 6 ∷ []
 
 -- the fault of a record, laid onto one point that rests at (1,1,1)
 abbrev pub fault_laid : List ℕ → Option Notice
@@ -92,9 +93,9 @@ pub record Worked : Type 0 where
   pub geometric : Cases
   -- the point that crosses the face, and the one that lands on it, by their names: they are kept
   pub crossing_named : vf_naming.shape (sheet_with falling) vf_name ≡ crossing
-  pub crossing_kept : IsKeptAtAnyDepth (sheet_with falling)
+  pub crossing_kept : All (IsKeptAt (sheet_with falling)) depths
   pub landing_named : vf_naming.shape (sheet_with falling_onto) vf_name ≡ landing
-  pub landing_kept : IsKeptAtAnyDepth (sheet_with falling_onto)
+  pub landing_kept : All (IsKeptAt (sheet_with falling_onto)) depths
   -- a step's record: hexadecimal 04 FE FF, then 08, 01 00 00 and 01
   pub recorded : point_record falling ≡ 4 ∷ 254 ∷ 255 ∷ []
   pub map_too_large : fault_laid (8 ∷ []) ≡ fault 9 layer.Step 0 0

@@ -1,41 +1,118 @@
 -- The claim, for every set that keeps the laws.
-use Rattle.std.proofs.Common.{ℕ, Bool, List, [], length, subst, append-nil}
+use Rattle.std.proofs.Common.{◌≡◌, ◌⊎◌, ℕ, zero, suc, ◌+◌, ◌<◌, ◌≤◌, Bool, true, false, ◌&&◌, List, All, Any, get_or, length, sym, refl, ◌∙◌, inl, inr, ⊎_elim, subst, arith}
+use Rattle.std.proofs.lemmas.Bool.{cases_Bool, both_ways, false_from_ne_true}
+use Rattle.std.proofs.lemmas.Option.{slice_get_within, slice_get-get_or, slice_get_read, get_or_from_slice_get}
 use Rattle.sheet.specs.declared.drafts.Draft.{Draft}
 use Rattle.motion.specs.declared.shapes.Shape.{Shape}
-use Rattle.motion.specs.Laws.{Lawful}
+use Rattle.motion.specs.Laws.{Lawful, Valid, Apart, half}
+use Rattle.motion.specs.Depths.{struck_at, Struck}
+use Rattle.motion.proofs.Subintervals.{valid-first, valid-last}
+use Rattle.motion.proofs.DepthLaws.{struck, struck-whole, struck-step}
 use Rattle.inspection.specs.declared.classes.Tally.{Tally}
 use Rattle.inspection.specs.declared.kinds.ListKind.TheVariants.{Vf, Ee}
 use Rattle.inspection.specs.Tallies.{tally_in}
+use Rattle.inspection.specs.Offerings.{SameOffering}
 use Rattle.inspection.specs.Sheets.{Sheet}
 use Rattle.inspection.specs.Tests.{Naming, vf_naming, ee_naming}
-use Rattle.inspection.proofs.Standing.{At, at-all}
+use Rattle.inspection.specs.Lists.{has}
 use Rattle.inspection.specs.States.{State}
 use Rattle.inspection.specs.Runs.{Accepted, Run}
-use Rattle.inspection.specs.Claims.{Claim}
-use Rattle.inspection.proofs.VfNames.{vf_laws}
-use Rattle.inspection.proofs.EeNames.{ee_laws}
-use Rattle.inspection.proofs.Gathering.{Upto}
-use Rattle.inspection.proofs.Moments.{KindSoFar, OfferFacts, Moment, moment}
-use Rattle.inspection.proofs.Keeping.{kept, covers}
+use Rattle.inspection.specs.Claims.{Before, PassedAt, ClaimOfKind, Agree, MatchesOffers, Covers, Claim}
+use Rattle.inspection.proofs.NamingLaws.{NamingLaws, alike, vf_laws, ee_laws}
+use Rattle.inspection.proofs.Gathering.{At, at-all, Upto, listing, gathered, passed-as}
+use Rattle.inspection.proofs.Moments.{KindSoFar, OfferFacts, moment}
 
--- at the end of a run nothing comes later
-ended : {E : Type 0} {n : Naming E} {times : ℕ → ℕ} {set : Shape → Bool} {sheet : Sheet} {h : List Accepted} {es : List E} {t : Tally} → KindSoFar n times set sheet h es t → Upto n set sheet h (length h) 0 es
-ended {n} {set} {sheet} {h} {es} k = subst (λ (x : List Accepted). Upto n set sheet x (length h) 0 es) (append-nil h) (k.gathered [])
+-- ---- sets that agree on every test strike the same tests at each depth
+module _ (set set' : Shape → Bool) (same : Agree set set') where
+  agreed : (d : ℕ) (t : Shape) → Valid t → t.scale + d ≤ 6 → struck_at set' d t ≡ struck_at set d t
+  agreed zero t v k = struck-whole set' t ∙ same t v ∙ sym (struck-whole set t)
+  agreed (suc d) t v k =
+      let c : t.scale ≤ 5 = omega arith in
+      let x = agreed d (half 0 t) (valid-first t v c) (omega arith) in
+      let y = agreed d (half 1 t) (valid-last t v c) (omega arith) in
+      struck-step set' d t ∙ (λ i. x i && y i) ∙ sym (struck-step set d t)
 
+-- ---- what the tests of one kind and their list owe, at the end of a run
+never : (i j : ℕ) → Before i j i j → ⊥
+never i j b = grind arith
+
+module _ {E : Type 0} (n : Naming E) (each : ℕ) (sheet : Sheet) (named : NamingLaws n each sheet) where
+  -- what was passed is listed, and what is listed was passed
+  upto : (set : Shape → Bool) (h : List Accepted) (es : List E) → es ≡ listing n set sheet h → Upto n set sheet each named h (length h) 0 es
+  upto set h es e = subst (Upto n set sheet each named h (length h) 0) (sym e) (gathered n set sheet each named h)
+
+  -- at the depth of an offer
+  fits : (x : E) (d : ℕ) → d ≤ 6 → (n.shape sheet x).scale + d ≤ 6
+  fits x d h = omega (arith, named.scale x)
+
+  module _ (set : Shape → Bool) (law : Lawful set) (h : List Accepted) (facts : All (OfferFacts sheet) h) (es : List E) (t : Tally) (k : KindSoFar n each set sheet h es t) where
+    abbrev u : Upto n set sheet each named h (length h) 0 es
+    u = upto set h es k.entries
+
+    all-passed : (e : E) (i j : ℕ) → PassedAt n set sheet h e i j → has n.same e es ≡ true
+    all-passed e i j w = u.passed e i j w (inl (slice_get_within h i w.offer w.accepted))
+
+    -- a test of an accepted offer that is not shared is struck there, or listed
+    judged : (i j : ℕ) (o : Accepted) (x : E) → At h i o → At (n.tests sheet o.what) j x → n.shared sheet x ≡ false
+        → Struck set o.depth (n.shape sheet x) ⊎ ((e : E) → n.same e x ≡ true → has n.same e es ≡ true)
+    judged i j o x a b c =
+        let f = at-all (OfferFacts sheet) h i o facts a in
+        ⊎_elim (λ s. inl (struck set law o.depth (n.shape sheet x) (named.valid f.near x) (fits x o.depth f.shallow) s))
+        (λ s. inr (λ e is. all-passed e i j (record { offer = o; test = x; accepted = a; holds = b; same = is; unshared = c; passed = s })))
+        (cases_Bool (struck_at set o.depth (n.shape sheet x)))
+
+    kept : ClaimOfKind n set sheet h each es t
+    kept =
+        record {
+          apart = λ i o a j e b. let p = get_or h i o in stays i j p (get_or (n.tests sheet p.what) j e) (slice_get-get_or h i o a) (slice_get-get_or (n.tests sheet p.what) j e b);
+          listed = λ e. (λ t. let (i, (j, (w, b))) = u.listed e t in (i, (j, w)), λ (i, (j, w)). all-passed e i j w);
+          once = once;
+          order = u.order;
+          classes = k.classes;
+          counts = k.counts;
+        }
+      where
+        -- of two that are the same, each would be passed before the other
+        once : (a b : ℕ) (d : E) → a < b → b < length es → n.same (get_or es a d) (get_or es b d) ≡ false
+        once a b d s t =
+            let x = get_or es a d in
+            let y = get_or es b d in
+            let (i, (j, (w, f))) = u.order a b d s t in
+            false_from_ne_true (n.same x y) (λ is. never i j (f i j (passed-as n set sheet each named h y x i j (named.equivalence.symm y x ∙ is) w)))
+
+        stays : (i j : ℕ) (o : Accepted) (e : E) → At h i o → At (n.tests sheet o.what) j e → n.shared sheet e ≡ false → has n.same e es ≡ false → Apart (n.shape sheet e)
+        stays i j o e a b c d = ⊎_elim (λ s. s.apart) (λ l. absurd (both_ways (has n.same e es) d (l e (named.equivalence.refl e)))) (judged i j o e a b c)
+
+    -- what another run lists, by a set that agrees
+    covers : (set' : Shape → Bool) → Agree set set' → (other : List Accepted) → All (OfferFacts sheet) other → (others : List E) → others ≡ listing n set' sheet other → MatchesOffers h other
+        → Covers n.same es others
+    covers set' same other facts' others listed answered e t =
+        let (i, (j, (w, b))) = (upto set' other others listed).listed e t in
+        let (k, p, a, is, (same_pair, deep)) = at-all (λ o. Any (λ p. SameOffering o.what p.what × (p.depth ≤ o.depth)) h) other i w.offer answered w.accepted in
+        let ts : List E = n.tests sheet w.offer.what in
+        let x = w.test in
+        let (l, d, at) = alike n each sheet named w.offer.what p.what same_pair x (j, slice_get_within ts j x w.holds, get_or_from_slice_get ts j x x w.holds) w.unshared in
+        let here : At h k p = slice_get_read h (length h) k p refl a (sym is) in
+        let low = fits x w.offer.depth (at-all (OfferFacts sheet) other i w.offer facts' w.accepted).shallow in
+        let near = (at-all (OfferFacts sheet) h k p facts here).near in
+        let passed : struck_at set w.offer.depth (n.shape sheet x) ≡ false = sym (agreed set set' same w.offer.depth (n.shape sheet x) (named.valid near x) low) ∙ w.passed in
+        ⊎_elim (λ s. absurd (both_ways (struck_at set w.offer.depth (n.shape sheet x)) passed (s.deeper w.offer.depth deep low))) (λ l. l e w.same)
+        (judged k l p x here (slice_get_read (n.tests sheet p.what) (length (n.tests sheet p.what)) l x refl d (sym at)) w.unshared)
+
+-- ---- the whole
 pub claim : {set : Shape → Bool} → Lawful set → (d : Draft) (sheet : Sheet) (h : List Accepted) (s : State) → Run set d sheet h s → Claim set d sheet h s.core s.vf.entries s.ee.entries
 claim {set} law d sheet h s run =
-    let m : Moment set d sheet h s = moment set d sheet run in
-    let low = λ (i : ℕ) (o : Accepted) (a : At h i o). (at-all (OfferFacts sheet) h i o m.each a).shallow in
-    let near = λ (i : ℕ) (o : Accepted) (a : At h i o). (at-all (OfferFacts sheet) h i o m.each a).near in
+    let m = moment set d sheet run in
+    let vf_tally = tally_in Vf s.core.tallies in
+    let ee_tally = tally_in Ee s.core.tallies in
     record {
       draft = m.draft;
-      vf = kept vf_naming set law sheet (vf_laws sheet) h low near s.vf.entries (ended m.vf) 6 (tally_in Vf s.core.tallies) m.vf.classes m.vf.counts;
-      ee = kept ee_naming set law sheet (ee_laws sheet) h low near s.ee.entries (ended m.ee) 9 (tally_in Ee s.core.tallies) m.ee.classes m.ee.counts;
+      vf = kept vf_naming 6 sheet (vf_laws sheet) set law h m.each s.vf.entries vf_tally m.vf;
+      ee = kept ee_naming 9 sheet (ee_laws sheet) set law h m.each s.ee.entries ee_tally m.ee;
       again = λ set' same d' other t run' answered.
-          let m' : Moment set' d' sheet other t = moment set' d' sheet run' in
-          let low' = λ (i : ℕ) (o : Accepted) (a : At other i o). (at-all (OfferFacts sheet) other i o m'.each a).shallow in (
-            covers vf_naming set law sheet (vf_laws sheet) h low near s.vf.entries (ended m.vf) set' same other low' t.vf.entries (ended m'.vf) answered,
-            covers ee_naming set law sheet (ee_laws sheet) h low near s.ee.entries (ended m.ee) set' same other low' t.ee.entries (ended m'.ee) answered,
+          let m' = moment set' d' sheet run' in (
+            covers vf_naming 6 sheet (vf_laws sheet) set law h m.each s.vf.entries vf_tally m.vf set' same other m'.each t.vf.entries m'.vf.entries answered,
+            covers ee_naming 9 sheet (ee_laws sheet) set law h m.each s.ee.entries ee_tally m.ee set' same other m'.each t.ee.entries m'.ee.entries answered,
           );
       of_sheet = λ i o a. (m.each i o a).of_sheet;
       offers = m.offers;

@@ -1,15 +1,7 @@
 pub mod Coordinates
-pub mod Going
-pub mod OfferSteps
 pub mod Working
 pub mod Inside
-pub mod Standing
 pub mod NamingLaws
-pub mod VfNames
-pub mod EeNames
-pub mod Befores
 pub mod Gathering
-pub mod Agreeing
-pub mod Keeping
 pub mod Moments
 pub mod Claiming

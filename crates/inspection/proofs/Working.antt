@@ -1,6 +1,6 @@
 -- Working through requests is a run, and its accepted offers are the run's history.
-use Rattle.std.proofs.Common.{◌≡◌, ℕ, ◌+◌, Bool, cond, is_ok, List, [], ◌∷◌, ◌++◌, Ok, Err, Result, sym, refl, ap, ◌∙◌, subst, subst₂, append-nil, ◌<◌, ◌≤◌, length, get_or, take, drop, set as list_set, arith}
-use Rattle.std.proofs.lemmas.List.{append_assoc, take_more, take_more_set, drop-set-lt, drop-drop}
+use Rattle.std.proofs.Common.{◌≡◌, ℕ, ◌+◌, Bool, cond, is_ok, List, [], ◌∷◌, ◌++◌, Result, sym, refl, ap, ◌∙◌, subst, subst₂, ◌<◌, length, get_or, take, drop, set as list_set, arith}
+use Rattle.std.proofs.lemmas.List.{take_more, take_more_set, drop-set-lt, drop-drop}
 use Rattle.sheet.specs.declared.drafts.Draft.{Draft}
 use Rattle.sheet.specs.declared.rows.Point.{Point}
 use Rattle.sheet.specs.declared.rows.Face.{Face}
@@ -10,17 +10,13 @@ use Rattle.inspection.specs.declared.faults.OfferFault.{OfferFault}
 use Rattle.inspection.specs.declared.requests.Request.{Request}
 use Rattle.inspection.specs.declared.requests.Request.TheVariants as request
 use Rattle.inspection.specs.declared.requests.Answer.{Answer}
-use Rattle.inspection.specs.declared.requests.Answer.TheVariants as answer
 use Rattle.inspection.specs.declared.kinds.ListKind.TheVariants.{Vf, Ee}
 use Rattle.inspection.specs.Offerings.{Offering}
-use Rattle.inspection.specs.Sheets.{Sheet, sheet_in}
-use Rattle.inspection.specs.declared.names.VfName.{VfName}
-use Rattle.inspection.specs.declared.names.EeName.{EeName}
-use Rattle.inspection.specs.Lists.{Contents}
-use Rattle.inspection.specs.States.{State, state_at_start}
+use Rattle.inspection.specs.Sheets.{sheet_in}
+use Rattle.inspection.specs.States.{State}
 use Rattle.inspection.specs.Offers.{OfferStep}
-use Rattle.inspection.specs.Runs.{Accepted, history_after, Run, opened, depth_set, offered, asked, DepthStep}
-use Rattle.inspection.specs.Requests.{RequestStep, Steps, history}
+use Rattle.inspection.specs.Runs.{Accepted, history_after, Run, depth_set, offered, asked, DepthStep}
+use Rattle.inspection.specs.Requests.{RequestStep, Steps, history_from}
 
 module _ (set : Shape → Bool) (ps : List Point) (fs : List Face) where
   depth-after : (s t : State) (k : ℕ) (r : Result (Unit {0}) OpeningFault) → DepthStep k s.core r t.core → t.core.depth ≡ cond (is_ok r) k s.core.depth
@@ -29,46 +25,26 @@ module _ (set : Shape → Bool) (ps : List Point) (fs : List Face) where
   offer-depth : (o : Offering) (s t : State) (r : Result (Unit {0}) OfferFault) → OfferStep set ps fs o s r t → t.core.depth ≡ s.core.depth
   offer-depth o s t r a = grind (arith, a.state)
 
-  -- ---- one step more of a run
+  -- ---- a run goes on by what is worked
   module _ (d : Draft) where
-    abbrev sheet : Sheet
-    sheet = sheet_in d ps fs
-
     abbrev Runs : List Accepted → State → Type 0
-    Runs = Run set d sheet
+    Runs = Run set d (sheet_in d ps fs)
 
-    abbrev Ends : List Accepted → List Request → List Answer → State → State → Type 0
-    Ends h qs rs s t = Runs (h ++ history s.core.depth qs rs) t
-
-    here : (h : List Accepted) (s t : State) → Runs h s → t ≡ s → Ends h [] [] s t
-    here h s t r e = subst (λ (k : List Accepted). Runs k t) (sym (append-nil h)) (asked t r e)
-
-    by-depth : (h : List Accepted) (k : ℕ) (r : Result (Unit {0}) OpeningFault) (qs : List Request) (rs : List Answer) (s u t : State)
-        → DepthStep k s.core r u.core → Ends h qs rs u t → Ends h (request.SetDepth k ∷ qs) (answer.DepthSet r ∷ rs) s t
-    by-depth h k r qs rs s u t a e = subst (λ (m : ℕ). Runs (h ++ history m qs rs) t) (depth-after s u k r a) e
-
-    by-offer : (h : List Accepted) (w : Offering) (x : Result (Unit {0}) OfferFault) (qs : List Request) (rs : List Answer) (s u t : State)
-        → OfferStep set ps fs w s x u → Ends (history_after h w s.core.depth x) qs rs u t → Ends h (request.Offer w ∷ qs) (answer.Offered x ∷ rs) s t
-    by-offer h w (Ok v) qs rs s u t a e =
-        let o : Accepted = record { what = w; depth = s.core.depth } in
-        subst (λ (k : List Accepted). Runs k t) (append_assoc h (o ∷ []) (history s.core.depth qs rs))
-        (subst (λ (m : ℕ). Runs ((h ++ (o ∷ [])) ++ history m qs rs) t) (offer-depth w s u (Ok v) a) e)
-    by-offer h w (Err v) qs rs s u t a e = subst (λ (m : ℕ). Runs (h ++ history m qs rs) t) (offer-depth w s u (Err v) a) e
-
-    pub worked-runs : (h : List Accepted) (qs : List Request) (rs : List Answer) (s t : State) → Runs h s → Steps set ps fs qs rs s t → Ends h qs rs s t
-    worked-runs h [] [] s t r w = here h s t r w
+    pub worked-runs : (h : List Accepted) (qs : List Request) (rs : List Answer) (s t : State) → Runs h s → Steps set ps fs qs rs s t → Runs (history_from h s.core.depth qs rs) t
+    worked-runs h [] [] s t r w = asked t r w
     worked-runs h [] (a ∷ rs) s t r w = absurd w
     worked-runs h (q ∷ qs) [] s t r w = absurd w
     worked-runs h (request.SetDepth k ∷ qs) (a ∷ rs) s t r (u, ((x, (e, b, v, f)), w)) =
-        subst (λ (y : Answer). Ends h (request.SetDepth k ∷ qs) (y ∷ rs) s t) (sym e)
-        (by-depth h k x qs rs s u t b (worked-runs h qs rs u t (depth_set k x u r b v f) w))
+        subst (λ (y : Answer). Runs (history_from h s.core.depth (request.SetDepth k ∷ qs) (y ∷ rs)) t) (sym e)
+        (subst (λ (m : ℕ). Runs (history_from h m qs rs) t) (depth-after s u k x b) (worked-runs h qs rs u t (depth_set k x u r b v f) w))
     worked-runs h (request.Offer o ∷ qs) (a ∷ rs) s t r (u, ((x, (e, b)), w)) =
-        subst (λ (y : Answer). Ends h (request.Offer o ∷ qs) (y ∷ rs) s t) (sym e)
-        (by-offer h o x qs rs s u t b (worked-runs (history_after h o s.core.depth x) qs rs u t (offered ps fs o x u r (λ b. refl) b) w))
+        let more : List Accepted = history_after h o s.core.depth x in
+        subst (λ (y : Answer). Runs (history_from h s.core.depth (request.Offer o ∷ qs) (y ∷ rs)) t) (sym e)
+        (subst (λ (m : ℕ). Runs (history_from more m qs rs) t) (offer-depth o s u x b) (worked-runs more qs rs u t (offered ps fs o x u r (λ b. refl) b) w))
     worked-runs h (request.Window Vf i ∷ qs) (a ∷ rs) s t r (u, ((x, (e, b, v)), w)) =
-        subst₂ (λ (y : Answer) (z : State). Ends h (request.Window Vf i ∷ qs) (y ∷ rs) z t) (sym e) v (worked-runs h qs rs u t (asked u r v) w)
+        subst₂ (λ (y : Answer) (z : State). Runs (history_from h z.core.depth (request.Window Vf i ∷ qs) (y ∷ rs)) t) (sym e) v (worked-runs h qs rs u t (asked u r v) w)
     worked-runs h (request.Window Ee i ∷ qs) (a ∷ rs) s t r (u, ((x, (e, b, v)), w)) =
-        subst₂ (λ (y : Answer) (z : State). Ends h (request.Window Ee i ∷ qs) (y ∷ rs) z t) (sym e) v (worked-runs h qs rs u t (asked u r v) w)
+        subst₂ (λ (y : Answer) (z : State). Runs (history_from h z.core.depth (request.Window Ee i ∷ qs) (y ∷ rs)) t) (sym e) v (worked-runs h qs rs u t (asked u r v) w)
 
   -- ---- one request more, worked at the end
   pub worked-more : (qs : List Request) (rs : List Answer) (q : Request) (a : Answer) (s t u : State)
@@ -88,9 +64,3 @@ module _ (set : Shape → Bool) (ps : List Point) (fs : List Face) where
 
 pub rest_more : {A : Type 0} (xs ys : List A) (i : ℕ) (a : A) → drop i xs ≡ drop i ys → drop (i + 1) (list_set xs i a) ≡ drop (i + 1) ys
 rest_more xs ys i a e = drop-set-lt (i + 1) xs i a (omega arith) ∙ sym (drop-drop 1 i xs) ∙ ap (drop 1) e ∙ drop-drop 1 i ys
-
--- ---- an opened inspection that was worked
-pub runs-on : (set : Shape → Bool) (ps : List Point) (fs : List Face) (d : Draft) (k : ℕ) (vf : Contents VfName) (ee : Contents EeName) (qs : List Request) (rs : List Answer) (t : State) → k ≤ 6
-    → Steps set ps fs qs rs (state_at_start d k vf ee) t → Run set d (sheet_in d ps fs) (history k qs rs) t
-runs-on set ps fs d k vf ee qs rs t h w =
-    worked-runs set ps fs d [] qs rs (state_at_start d k vf ee) t (opened (record { depth = h; core = refl; vf = refl; ee = refl })) w

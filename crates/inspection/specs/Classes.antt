@@ -1,5 +1,5 @@
 -- The class of each test of an offer, and what is listed and counted by it.
-use Rattle.std.specs.Prelude.{ℕ, Bool, if◌then◌else◌, List, [], ◌∷◌, ◌++◌}
+use Rattle.std.specs.Prelude.{ℕ, Bool, if◌then◌else◌, List, [], ◌∷◌, ◌++◌, fold}
 use Rattle.motion.specs.declared.shapes.Shape.{Shape}
 use Rattle.motion.specs.Depths.{struck_at}
 use Rattle.inspection.specs.declared.classes.Class.{Class}
@@ -39,8 +39,7 @@ module _ {E : Type 0} (r : Rules E) where
 
   -- the entries after tests, each in its turn
   abbrev pub entries_after : List E → List E → List E
-  entries_after es [] = es
-  entries_after es (e ∷ rest) = entries_after (entries_with (class_of es e) es e) rest
+  entries_after es tests = fold (λ old e. entries_with (class_of old e) old e) es tests
 
   -- the tally after them
   abbrev pub tally_after : List E → List E → Tally → Tally

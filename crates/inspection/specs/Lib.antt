@@ -10,7 +10,6 @@ pub mod Judges
 pub mod Faults
 pub mod States
 pub mod Offers
-pub mod PairOutcomes
 pub mod Windows
 pub mod Runs
 pub mod Requests

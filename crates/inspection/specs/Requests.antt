@@ -1,5 +1,5 @@
 -- Working through requests: one step for each, in their order, and the accepted offers among them.
-use Rattle.std.specs.Prelude.{◌≡◌, ℕ, Bool, if◌then◌else◌, List, [], ◌∷◌, Ok, is_ok, Option, Result}
+use Rattle.std.specs.Prelude.{◌≡◌, ℕ, Bool, if◌then◌else◌, List, [], ◌∷◌, is_ok, Option, Result}
 use Rattle.sheet.specs.declared.rows.Point.{Point}
 use Rattle.sheet.specs.declared.rows.Face.{Face}
 use Rattle.motion.specs.declared.shapes.Shape.{Shape}
@@ -15,7 +15,7 @@ use Rattle.inspection.specs.Tests.{vf_naming, ee_naming}
 use Rattle.inspection.specs.States.{State}
 use Rattle.inspection.specs.Offers.{OfferStep}
 use Rattle.inspection.specs.Windows.{WindowAnswer}
-use Rattle.inspection.specs.Runs.{Accepted, DepthStep}
+use Rattle.inspection.specs.Runs.{Accepted, DepthStep, history_after}
 
 module _ (set : Shape → Bool) (ps : List Point) (fs : List Face) where
   -- a request is answered in the state s, and leaves t
@@ -38,11 +38,14 @@ module _ (set : Shape → Bool) (ps : List Point) (fs : List Face) where
   Steps (q ∷ qs) (a ∷ rs) s t = (u : State) × (RequestStep q a s u × Steps qs rs u t)
   Steps qs rs s t = ⊥
 
--- the accepted offers, each with the depth then set; d is the depth before
+-- the accepted offers, each with the depth then set: behind those of h, d being the depth before
+abbrev pub history_from : List Accepted → ℕ → List Request → List Answer → List Accepted
+history_from h d (request.SetDepth k ∷ qs) (answer.DepthSet r ∷ rs) =
+    history_from h (if is_ok r then k else d) qs rs
+history_from h d (request.Offer o ∷ qs) (answer.Offered r ∷ rs) =
+    history_from (history_after h o d r) d qs rs
+history_from h d (q ∷ qs) (a ∷ rs) = history_from h d qs rs
+history_from h d qs rs = h
+
 abbrev pub history : ℕ → List Request → List Answer → List Accepted
-history d (request.SetDepth k ∷ qs) (answer.DepthSet r ∷ rs) =
-    history (if is_ok r then k else d) qs rs
-history d (request.Offer o ∷ qs) (answer.Offered (Ok u) ∷ rs) =
-    record { what = o; depth = d } ∷ history d qs rs
-history d (q ∷ qs) (a ∷ rs) = history d qs rs
-history d qs rs = []
+history d qs rs = history_from [] d qs rs

@@ -1,11 +1,11 @@
 // An inspection of one step of a sheet: opened, offered faces, and asked.
-ghost use Rattle.std.specs.Prelude.{◌≡◌, ◌*◌, ◌<◌, ◌≤◌, Some, is_ok, nat_lt, slice_get, IfOk, IfErr, OnOk, if◌then◌else◌};
+ghost use Rattle.std.specs.Prelude.{◌≡◌, ◌*◌, ◌<◌, ◌≤◌, ◌++◌, ◌||◌, length, is_none, is_ok, nat_lt, IfOk, IfErr, IfSome, if◌then◌else◌};
 ghost use Rattle.sheet.specs.Checks.{first_fit, fault_notice};
 ghost use Rattle.motion.specs.Depths.{window_at, WindowMeans};
-ghost use Rattle.inspection.specs.Faults.{notice_of_opening, notice_of_offer, notice_of_window};
+ghost use Rattle.inspection.specs.Faults.{notice_of_opening};
 ghost use Rattle.inspection.specs.Tallies.{total, tally_in};
 ghost use Rattle.inspection.specs.Sheets.{sheet_in, sheet_of_rows};
-ghost use Rattle.inspection.specs.Lists.{contents_of, entries, without_entries};
+ghost use Rattle.inspection.specs.Lists.{contents_of, entries, with_entries, without_entries};
 ghost use Rattle.inspection.specs.Tests.{vf_naming, ee_naming};
 ghost use Rattle.inspection.specs.declared.kinds.ListKind.TheVariants.{Vf, Ee};
 ghost use Rattle.inspection.specs.declared.faults.OfferFault.TheVariants.{ListFull};
@@ -66,9 +66,8 @@ struct PairOutcome {
 
 impl<F: Filter> Inspection<F> {
     ghost use Rattle.inspection.specs.States.{core_of, state_of, core_at_start, with_counts};
-    ghost use Rattle.inspection.specs.Offers.{checks_but_room, Outcome, OfferStep};
-    ghost use Rattle.inspection.specs.PairOutcomes.{lacks_room_for, with_outcome};
-    ghost use Rattle.inspection.specs.Windows.{WindowAnswer, window_checks};
+    ghost use Rattle.inspection.specs.Offers.{lacks_rows, Outcome, OfferStep};
+    ghost use Rattle.inspection.specs.Windows.{WindowAnswer};
     ghost use Rattle.inspection.specs.Runs.{depth_checks, Opened, DepthStep};
     ghost use Rattle.inspection.specs.Claims.{Findings};
 
@@ -140,33 +139,24 @@ impl<F: Filter> Inspection<F> {
             what (state_of self.old vf.old ee.old) result (state_of self.new vf.new ee.new) }
         ensures filter { self.new.filter ≡ self.old.filter }
     {
-        let new = self.class_pair(points, faces, vf, ee, what)?;
+        let rows = check_offer(&self.draft, points, faces, what, self.accepted)?;
+        let new = self.class_pair(rows, vf, ee, what);
         self.accept(&new, vf, ee)
     }
 
-    /// Makes the checks of an offer, but for the room on the lists, and classes the pair's tests.
+    /// Classes the tests of a pair.
     fn class_pair(
         &self,
-        points: &[Point],
-        faces: &[Face],
+        rows: Rows<'_>,
         vf: &List<'_, VfName>,
         ee: &List<'_, EeName>,
         what: Offering,
-    ) -> Result<PairOutcome, OfferFault>
-        ensures fault { fault_notice notice_of_offer result
-            ≡ first_fit (checks_but_room self.now.draft points.now faces.now what
-            self.now.accepted) }
-        ensures few { OnOk result (self.now.accepted < 1000000) }
-        ensures vf { IfOk result (λ c.
-            Outcome vf_naming (F.Filter.struck self.now.filter) self.now.depth
-            (sheet_in self.now.draft points.now faces.now) what
-            (entries vf.now) c.vf.items c.vf_tally) }
-        ensures ee { IfOk result (λ c.
-            Outcome ee_naming (F.Filter.struck self.now.filter) self.now.depth
-            (sheet_in self.now.draft points.now faces.now) what
-            (entries ee.now) c.ee.items c.ee_tally) }
+    ) -> PairOutcome
+        ensures vf { Outcome vf_naming (F.Filter.struck self.now.filter) self.now.depth
+            (sheet_of_rows rows.entry) what (entries vf.now) result.vf.items result.vf_tally }
+        ensures ee { Outcome ee_naming (F.Filter.struck self.now.filter) self.now.depth
+            (sheet_of_rows rows.entry) what (entries ee.now) result.ee.items result.ee_tally }
     {
-        let rows = check_offer(&self.draft, points, faces, what, self.accepted)?;
         let judge = Judge {
             rows,
             filter: &self.filter,
@@ -174,12 +164,12 @@ impl<F: Filter> Inspection<F> {
         };
         let (vf, vf_tally) = judge.class_all(&vf_tests(rows, what), vf);
         let (ee, ee_tally) = judge.class_all(&ee_tests(rows, what), ee);
-        Ok(PairOutcome {
+        PairOutcome {
             vf,
             vf_tally,
             ee,
             ee_tally,
-        })
+        }
     }
 
     /// Lists and counts what a pair's tests come to. Where a list has fewer free places than new
@@ -193,11 +183,18 @@ impl<F: Filter> Inspection<F> {
         requires few { self.old.accepted < 1000000 }
         requires vf { total new.now.vf_tally ≤ 6 }
         requires ee { total new.now.ee_tally ≤ 9 }
-        ensures room { let full = lacks_room_for new.now (state_of self.old vf.old ee.old) in
-            result ≡ (if full then Err ListFull else Ok tt) }
-        ensures state { let old = state_of self.old vf.old ee.old in
-            state_of self.new vf.new ee.new
-            ≡ (if is_ok result then with_outcome new.now old else old) }
+        ensures room { let vf_short = nat_lt (length (contents_of vf.old).rest) (length new.now.vf.items) in
+            let ee_short = nat_lt (length (contents_of ee.old).rest) (length new.now.ee.items) in
+            result ≡ (if vf_short || ee_short then Err ListFull else Ok tt) }
+        ensures vf { let old = contents_of vf.old in
+            let grown = with_entries (old.entries ++ new.now.vf.items) old in
+            contents_of vf.new ≡ (if is_ok result then grown else old) }
+        ensures ee { let old = contents_of ee.old in
+            let grown = with_entries (old.entries ++ new.now.ee.items) old in
+            contents_of ee.new ≡ (if is_ok result then grown else old) }
+        ensures core { let old = core_of self.old in
+            let counted = with_counts new.now.vf_tally new.now.ee_tally old in
+            core_of self.new ≡ (if is_ok result then counted else old) }
         ensures filter { self.new.filter ≡ self.old.filter }
     {
         if vf.free() < new.vf.len() || ee.free() < new.ee.len() {
@@ -249,27 +246,7 @@ impl<F: Filter> Inspection<F> {
         ensures { WindowAnswer E.naming points.now faces.now (core_of self.now)
             (contents_of list.now) entry (F.Filter.struck self.now.filter) result }
     {
-        let (e, rows) = self.checked_entry(points, faces, list, entry)?;
-        Ok(self.window_of(e, rows))
-    }
-
-    /// An entry whose window can be told, and the rows that its numbers are of: the checks of
-    /// `window`, and no window.
-    pub fn checked_entry<'a, E: TestName>(
-        &self,
-        points: &'a [Point],
-        faces: &'a [Face],
-        list: &List<'_, E>,
-        entry: u32,
-    ) -> Result<(E, Rows<'a>), WindowFault>
-        ensures fault { fault_notice notice_of_window result
-            ≡ first_fit (window_checks E.naming points.now faces.now (core_of self.now)
-            (contents_of list.now) entry) }
-        ensures entry { IfOk result (λ x. slice_get (entries list.now) entry ≡ Some x.0) }
-        ensures rows { IfOk result (λ x.
-            sheet_of_rows x.1 ≡ sheet_in (core_of self.now).draft points.now faces.now) }
-    {
-        let Some(rows) = Rows::of(&self.draft, points, faces) else {
+        let Some(rows) = self.rows(points, faces) else {
             return Err(WindowFault::TableTooShort);
         };
         let Some(e) = list.get(entry as usize) else {
@@ -278,10 +255,20 @@ impl<F: Filter> Inspection<F> {
         if !e.is_inside(rows) {
             return Err(WindowFault::NotOfTheSheet(entry));
         }
-        Ok((e, rows))
+        Ok(self.window_of(e, rows))
     }
 
-    fn window_of<E: TestName>(&self, e: E, rows: Rows<'_>) -> Option<(u8, u8)>
+    /// The rows of the sheet, as they lie in tables that may have more; none where one has fewer.
+    pub fn rows<'a>(&self, points: &'a [Point], faces: &'a [Face]) -> Option<Rows<'a>>
+        ensures none { is_none result ≡ lacks_rows self.now.draft points.now faces.now }
+        ensures rows { IfSome result (λ r.
+            sheet_of_rows r ≡ sheet_in self.now.draft points.now faces.now) }
+    {
+        Rows::of(&self.draft, points, faces)
+    }
+
+    /// The window of an entry in hand, over the rows of a sheet.
+    pub fn window_of<E: TestName>(&self, e: E, rows: Rows<'_>) -> Option<(u8, u8)>
         ensures value { let shape = E.naming.shape (sheet_of_rows rows.entry) e in
             result ≡ window_at (F.Filter.struck self.now.filter) self.now.depth shape }
         ensures meaning { let shape = E.naming.shape (sheet_of_rows rows.entry) e in

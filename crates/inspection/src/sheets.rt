@@ -33,21 +33,21 @@ impl<'a> Rows<'a> {
     }
 
     /// How many points the sheet has.
-    pub(crate) fn points(self) -> usize
+    pub fn points(self) -> usize
         ensures { result ≡ length (sheet_of_rows self.entry).points }
     {
         self.points.len()
     }
 
     /// How many faces the sheet has.
-    pub(crate) fn faces(self) -> usize
+    pub fn faces(self) -> usize
         ensures { result ≡ length (sheet_of_rows self.entry).faces }
     {
         self.faces.len()
     }
 
     /// A point, each coordinate as it counts.
-    pub(crate) fn point(self, i: u16) -> Moving
+    pub fn point(self, i: u16) -> Moving
         ensures value { result ≡ point_at (sheet_of_rows self.entry) i }
         ensures reach { InReach 0 result }
     {
@@ -57,7 +57,7 @@ impl<'a> Rows<'a> {
         }
     }
 
-    pub(crate) fn face(self, i: u16) -> Face
+    pub fn face(self, i: u16) -> Face
         ensures { result ≡ face_at (sheet_of_rows self.entry) i }
     {
         match self.faces.get(i as usize) {

@@ -39,7 +39,7 @@ use Rattle.inspection.specs.Offers.{lacks_rows}
 use Rattle.inspection.specs.Runs.{Accepted, Opened, opened}
 use Rattle.inspection.specs.Tests.{Naming, vf_naming, ee_naming}
 use Rattle.report.specs.Faults.{place_of}
-use Rattle.report.specs.Reports.{View, check, checks_from, entry_checks, entry_limit, len_checks, numbered, report_text}
+use Rattle.report.specs.Reports.{View, check, checks_from, entry_checks, entry_limit, list_checks, numbered, report_text}
 use Rattle.printout.specs.Plans.{Plan, printout, printout_by, sheet, draft, walk, report_of, ClaimOfPlan}
 use Rattle.printout.specs.declared.endings.Ending.{Ending}
 use Rattle.printout.specs.declared.endings.Ending.TheVariants.{Complete}
@@ -183,20 +183,22 @@ module _ {S E : Type 0} (does : S → Event PlanFile → S → Type 0) (fails : 
       (piece_offered is_last s t u h i j k size chunk (Err e) going piece offers d w m)
 
 -- ---- no check of the report fits entries that are of the sheet
-no_stray : {E : Type 0} (n : Naming E) (l : ListKind) (v : View) (i : ℕ) (es : List E) → All (λ e. IsTrue (n.inside v.sheet e)) es → first_fit (checks_from n l v i es) ≡ None
-no_stray n l v i [] all = refl
-no_stray n l v i (e ∷ es) all =
-    let inside = All-head (λ x. IsTrue (n.inside v.sheet x)) e es all in
-    ap (λ b. if not b then Some (check (not b) 19 i (place_of l)).tells else first_fit (checks_from n l v (i + 1) es)) inside
-    ∙ no_stray n l v (i + 1) es (All-tail (λ x. IsTrue (n.inside v.sheet x)) e es all)
+no_stray : {E : Type 0} (n : Naming E) (l : ListKind) (s : Sheet) (i : ℕ) (es : List E) → All (λ e. IsTrue (n.inside s e)) es → first_fit (checks_from n l s i es) ≡ None
+no_stray n l s i [] all = refl
+no_stray n l s i (e ∷ es) all =
+    let inside = All-head (λ x. IsTrue (n.inside s x)) e es all in
+    ap (λ b. if not b then Some (check (not b) 19 i (place_of l)).tells else first_fit (checks_from n l s (i + 1) es)) inside
+    ∙ no_stray n l s (i + 1) es (All-tail (λ x. IsTrue (n.inside s x)) e es all)
 
-pub no_faults : (v : View) (vf : List VfName) (ee : List EeName) → Reportable v vf ee → None ≡ first_fit (len_checks v vf ee)
+no_faults : (d : Draft) (ps : List Point) (fs : List Face) (vf : List VfName) (ee : List EeName) → IsFalse (lacks_rows d ps fs)
+    → All (λ e. IsTrue (vf_naming.inside (sheet_in d ps fs) e)) vf → All (λ e. IsTrue (ee_naming.inside (sheet_in d ps fs) e)) ee → Reportable d ps fs vf ee
 unfolding Reportable
-no_faults v vf ee (rows, (vfs, ees)) =
-    let first = no_stray vf_naming Vf v 0 (numbered vf) (All-take (λ e. IsTrue (vf_naming.inside v.sheet e)) entry_limit vf vfs) in
-    let second = no_stray ee_naming Ee v 0 (numbered ee) (All-take (λ e. IsTrue (ee_naming.inside v.sheet e)) entry_limit ee ees) in
-    sym (ap (λ b. if b then Some (check b 16 0 0).tells else first_fit (entry_checks vf_naming Vf v vf ++ entry_checks ee_naming Ee v ee)) rows
-    ∙ sym (past (entry_checks vf_naming Vf v vf) (entry_checks ee_naming Ee v ee) (sym first)) ∙ second)
+no_faults d ps fs vf ee rows vfs ees =
+    let s = sheet_in d ps fs in
+    let first = no_stray vf_naming Vf s 0 (numbered vf) (All-take (λ e. IsTrue (vf_naming.inside s e)) entry_limit vf vfs) in
+    let second = no_stray ee_naming Ee s 0 (numbered ee) (All-take (λ e. IsTrue (ee_naming.inside s e)) entry_limit ee ees) in
+    sym (ap (λ b. if b then Some (check b 16 0 0).tells else first_fit (list_checks s vf ee)) rows
+    ∙ sym (past (entry_checks vf_naming Vf s vf) (entry_checks ee_naming Ee s ee) (sym first)) ∙ second)
 
 -- ---- an inspection that is just opened has made no step of the walk
 pub made_none : (d : Draft) (s : State) → Opened d s → s.core ≡ core_at_start d depth → length s.vf.rest ≡ places → length s.ee.rest ≡ places → Begins d s
@@ -221,7 +223,7 @@ made_none d s o core vf ee ps fs rows =
 
 -- what is reported of a state
 abbrev pub view : List Point → List Face → State → View
-view ps fs t = record { set = delivered; core = t.core; sheet = sheet_in t.core.draft ps fs; lacks_rows = lacks_rows t.core.draft ps fs }
+view ps fs t = record { set = delivered; core = t.core; sheet = sheet_in t.core.draft ps fs }
 
 abbrev pub report_in : List Point → List Face → State → List ℕ
 report_in ps fs t = report_text (view ps fs t) t.vf.entries t.ee.entries
@@ -269,7 +271,7 @@ module _ (p : Plan) (d : Draft) (ps : List Point) (fs : List Face) (h : HoldsPla
     same_sheet = ap (λ k. sheet_in k ps fs) m.draft ∙ h.sheet
 
     same_report : report_in ps fs t ≡ report_of p (over (pairs_came es)).found
-    same_report = λ i. report_text (record { set = delivered; core = (m.found i).core; sheet = same_sheet i; lacks_rows = m.rows i }) (m.found i).vf (m.found i).ee
+    same_report = λ i. report_text (record { set = delivered; core = (m.found i).core; sheet = same_sheet i }) (m.found i).vf (m.found i).ee
 
     pub comes_reported : CameTo true es → (n : ℕ) (told : Tells n nothing_told (told_of (over (pairs_came es)) ⊕ only_text (report_in ps fs t)) (es ++ gs) how) → files_read gs ++ unread_by how ≡ []
         → IfOk how (λ end. (end ≡ Complete) × Findings delivered t) → FitsFile Pairs p.pairs (es ++ gs) → Comes p (λ n. replicate n Pairs) (es ++ gs) how
@@ -320,9 +322,9 @@ module _ {S E : Type 0} (does : S → Event PlanFile → S → Type 0) (fails : 
       (offers d (just_opened d) start)
 
   module _ (offers : OffersFile {X = Unit {0}} does fails delivered ps fs true s t h (Ok tt) m) where
-    pub reportable : Reportable (view ps fs t) t.vf.entries t.ee.entries
-    unfolding Reportable OffersFile
-    reportable = let made = (offers d (just_opened d) start).good.1.1 in (made.rows, (made.vf.inside, made.ee.inside))
+    pub reportable : Reportable t.core.draft ps fs t.vf.entries t.ee.entries
+    unfolding OffersFile
+    reportable = let made = (offers d (just_opened d) start).good.1.1 in no_faults t.core.draft ps fs t.vf.entries t.ee.entries made.rows made.vf.inside made.ee.inside
 
     pub ran : (r : Result Ending E) (k : S)
         → Prints does fails (report_in ps fs t) m r k

@@ -1,5 +1,5 @@
 -- What a plan's files make `inspect` print, store and end with, and what it may claim then.
-use Rattle.std.specs.Prelude.{◌≡◌, ℕ, false, List, [], ◌∷◌, ◌++◌, Some, None, Option, replicate}
+use Rattle.std.specs.Prelude.{◌≡◌, ℕ, List, [], ◌∷◌, ◌++◌, Some, None, Option, replicate}
 use Rattle.sheet.specs.Checks.{first_fit}
 use Rattle.sheet.specs.Lines.{numbered}
 use Rattle.sheet.specs.Sheet.{point_limit, face_limit, sheet_checks, draft_of, points_in, faces_in}
@@ -67,7 +67,7 @@ walk p = walked delivered (sheet p) (just_opened (draft p)) (offers_in p.pairs)
 
 abbrev pub report_of : Plan → Found → List ℕ
 report_of p f =
-    let view : View = record { set = delivered; core = f.core; sheet = sheet p; lacks_rows = false } in
+    let view : View = record { set = delivered; core = f.core; sheet = sheet p } in
     report_text view f.vf f.ee
 
 -- a line for each pair that is refused, and then the report; or the line of the fault

@@ -2,6 +2,7 @@
 use Rattle.std.specs.Prelude.{◌≡◌, ℕ, ◌+◌, ◌%◌, ◌≤◌, nat_lt, Bool, true, false, IsTrue, IsFalse, IfOk, All, List, [], ◌++◌, length, take, replicate, Ok, Err, Result, ◌↔◌, ◌∷◌, None}
 use Rattle.hosts.specs.Events.{Event, Read, Call, Reading, printed, stored, files_read, asked, came}
 use Rattle.hosts.specs.Works.{Ran, unread_by}
+use Rattle.sheet.specs.Checks.{first_fit}
 use Rattle.sheet.specs.declared.drafts.Draft.{Draft}
 use Rattle.sheet.specs.declared.notices.Notice.{Notice}
 use Rattle.sheet.specs.declared.rows.Point.{Point}
@@ -18,7 +19,7 @@ use Rattle.inspection.specs.Tests.{Naming, vf_naming, ee_naming}
 use Rattle.inspection.specs.PairBytes.{offers_in}
 use Rattle.inspection.specs.declared.names.VfName.{VfName}
 use Rattle.inspection.specs.declared.names.EeName.{EeName}
-use Rattle.report.specs.Reports.{View, AllInside}
+use Rattle.report.specs.Reports.{len_checks}
 use Rattle.printout.specs.Outcomes.{same_file}
 use Rattle.printout.specs.Printouts.{notice_line}
 use Rattle.printout.specs.Walks.{Walk, Found, places, pair_bytes, just_opened, walked, refusal_lines, refused_pairs}
@@ -55,8 +56,8 @@ Begins d s =
     → Made delivered d ps fs (just_opened d) s
 
 -- no check of a report fits: its tables are there, and what is listed is of the sheet
-unfoldable pub Reportable : View → List VfName → List EeName → Type 0
-Reportable v vf ee = IsFalse v.lacks_rows × (AllInside vf_naming v vf × AllInside ee_naming v ee)
+unfoldable pub Reportable : Draft → List Point → List Face → List VfName → List EeName → Type 0
+Reportable d ps fs vf ee = None ≡ first_fit (len_checks d ps fs vf ee)
 
 -- ---- what is told: all that is printed, and all that is stored
 pub record Told : Type 0 where

@@ -131,7 +131,7 @@ fn open_plan(
 }
 
 /// Prints what an inspection has found.
-#[tactic(auto, using(crate::proofs::FileOfPairs::no_faults))]
+#[tactic(auto, unfolding(crate::specs::Progress::Reportable))]
 fn print_found<F: Filter, H: Host<File = PlanFile>>(
     inspection: &Inspection<F>,
     points: &[Point],
@@ -140,14 +140,13 @@ fn print_found<F: Filter, H: Host<File = PlanFile>>(
     ee: &List<'_, EeName>,
     host: &mut H,
 ) -> Result<Ending, H::Error>
-    requires { let v = view_of F.Filter.struck inspection.now points.now faces.now in
-        Reportable v (entries vf.now) (entries ee.now) }
+    requires { Reportable inspection.now.draft points.now faces.now (entries vf.now) (entries ee.now) }
     ensures printed { let v = view_of F.Filter.struck inspection.now points.now faces.now in
         let text = report_text v (entries vf.now) (entries ee.now) in
         Prints H.does H.fails text host.old result host.new }
-    ensures found { let v = view_of F.Filter.struck inspection.now points.now faces.now in
-        IfOk result (λ ending.
-        (ending ≡ Complete) × Findings v.set (state_of inspection.now vf.now ee.now)) }
+    ensures found { IfOk result (λ ending.
+        (ending ≡ Complete) × Findings (F.Filter.struck inspection.now.filter)
+        (state_of inspection.now vf.now ee.now)) }
 {
     let Ok(()) = print_report(inspection, points, faces, vf, ee, host)? else {
         unreachable!()

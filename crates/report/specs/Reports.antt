@@ -1,8 +1,9 @@
 -- The report of an inspection: its text, and the checks of the call in their order.
-use Rattle.std.specs.Prelude.{ℕ, ◌+◌, Bool, not, IsTrue, All, List, [], ◌∷◌, ◌++◌, length, take, Option, is_none, if◌then◌else◌, nat_lt, flat_map}
+use Rattle.std.specs.Prelude.{ℕ, ◌+◌, Bool, not, List, [], ◌∷◌, ◌++◌, length, take, Option, is_none, if◌then◌else◌, nat_lt, flat_map}
 use Rattle.sheet.specs.Checks.{Check, first_fit}
 use Rattle.sheet.specs.declared.rows.Point.{Point}
 use Rattle.sheet.specs.declared.rows.Face.{Face}
+use Rattle.sheet.specs.declared.drafts.Draft.{Draft}
 use Rattle.motion.specs.declared.shapes.Shape.{Shape}
 use Rattle.motion.specs.Depths.{window_at}
 use Rattle.inspection.specs.Sheets.{Sheet, sheet_in}
@@ -19,23 +20,19 @@ use Rattle.inspection.specs.declared.kinds.ListKind.TheVariants.{Vf, Ee}
 use Rattle.report.specs.Faults.{notice_at, place_of}
 use Rattle.report.specs.Lines.{vf_line, ee_line, count_line}
 
--- the inspection that is reported, by its filter's set, and its sheet as the tables hold it
+-- the inspection that is reported, by its filter's set, and its sheet
 pub record View : Type 0 where
   pub set : Shape → Bool
   pub core : Core
   pub sheet : Sheet
-  -- a table is shorter than its count
-  pub lacks_rows : Bool
 
+abbrev pub view_over : {F : Type 0} → (F → Shape → Bool) → Inspection F → Sheet → View
+view_over struck i s = record { set = struck i.filter; core = core_of i; sheet = s }
+
+-- the sheet as the tables hold it
 abbrev pub view_of : {F : Type 0}
     → (F → Shape → Bool) → Inspection F → List Point → List Face → View
-view_of struck i ps fs =
-    record {
-      set = struck i.filter;
-      core = core_of i;
-      sheet = sheet_in i.draft ps fs;
-      lacks_rows = lacks_rows i.draft ps fs;
-    }
+view_of struck i ps fs = view_over struck i (sheet_in i.draft ps fs)
 
 -- the entries that have a number, which is below 2^32; an inspection lists at most nine million
 unfoldable pub entry_limit : ℕ
@@ -47,47 +44,45 @@ numbered es = take entry_limit es
 abbrev pub check : Bool → ℕ → ℕ → ℕ → Check
 check b number first second = record { fits = b; tells = notice_at number first second }
 
--- the numbers of entries are of the sheet
-abbrev pub AllInside : {E : Type 0} → Naming E → View → List E → Type 0
-AllInside n v es = All (λ e. IsTrue (n.inside v.sheet e)) es
+-- ---- of a list
+-- an entry, with its window at the depth now set
+abbrev pub entry_line : {E : Type 0}
+    → Naming E → View → (E → Option (ℕ × ℕ) → List ℕ) → E → List ℕ
+entry_line n v line e = line e (window_at v.set v.core.depth (n.shape v.sheet e))
 
--- ---- of a list: what its entries name, and which list it is
-module _ {E : Type 0} (n : Naming E) (l : ListKind) (v : View) where
-  -- the entries from number i on
-  abbrev pub checks_from : ℕ → List E → List Check
-  checks_from i [] = []
-  checks_from i (e ∷ es) =
-      check (not (n.inside v.sheet e)) 19 i (place_of l) ∷ checks_from (i + 1) es
+-- by what its entries name, and which list it is
+module _ {E : Type 0} (n : Naming E) (l : ListKind) where
+  -- over a sheet: of the entries from number i on
+  abbrev pub checks_from : Sheet → ℕ → List E → List Check
+  checks_from s i [] = []
+  checks_from s i (e ∷ es) =
+      check (not (n.inside s e)) 19 i (place_of l) ∷ checks_from s (i + 1) es
 
-  abbrev pub entry_checks : List E → List Check
-  entry_checks es = checks_from 0 (numbered es)
+  abbrev pub entry_checks : Sheet → List E → List Check
+  entry_checks s es = checks_from s 0 (numbered es)
 
-  module _ (line : E → Option (ℕ × ℕ) → List ℕ) where
-    -- an entry, with its window at the depth now set
-    abbrev pub entry_line : E → List ℕ
-    entry_line e = line e (window_at v.set v.core.depth (n.shape v.sheet e))
+  -- its entries, and its counts
+  abbrev pub section : View → (E → Option (ℕ × ℕ) → List ℕ) → List E → Tally → List ℕ
+  section v line es t = flat_map (entry_line n v line) (numbered es) ++ count_line l t
 
-    -- its entries, and its counts
-    abbrev pub section : List E → Tally → List ℕ
-    section es t = flat_map entry_line (numbered es) ++ count_line l t
+-- ---- of the entries of both lists
+unfoldable pub report_text : View → List VfName → List EeName → List ℕ
+report_text v vf ee =
+    section vf_naming Vf v vf_line vf (tally_in Vf v.core.tallies)
+    ++ section ee_naming Ee v ee_line ee (tally_in Ee v.core.tallies)
 
--- ---- of an inspection, with the entries of its two lists
-module _ (v : View) (vf : List VfName) (ee : List EeName) where
-  abbrev pub report_text : List ℕ
-  report_text =
-      section vf_naming Vf v vf_line vf (tally_in Vf v.core.tallies)
-      ++ section ee_naming Ee v ee_line ee (tally_in Ee v.core.tallies)
+abbrev pub list_checks : Sheet → List VfName → List EeName → List Check
+list_checks s vf ee = entry_checks vf_naming Vf s vf ++ entry_checks ee_naming Ee s ee
 
-  -- whatever the output
-  abbrev pub len_checks : List Check
-  len_checks =
-      check v.lacks_rows 16 0 0
-      ∷ (entry_checks vf_naming Vf v vf ++ entry_checks ee_naming Ee v ee)
+-- of a call over these tables, whatever the output
+abbrev pub len_checks : Draft → List Point → List Face → List VfName → List EeName → List Check
+len_checks d ps fs vf ee =
+    check (lacks_rows d ps fs) 16 0 0 ∷ list_checks (sheet_in d ps fs) vf ee
 
-  -- what is printed: nothing, where a check fits
-  abbrev pub printed_report : List ℕ
-  printed_report = if is_none (first_fit len_checks) then report_text else []
+-- for an output of so many bytes
+abbrev pub room_check : List ℕ → ℕ → Check
+room_check text places = check (nat_lt places (length text)) 23 0 0
 
-  -- for an output of so many bytes
-  abbrev pub report_checks : ℕ → List Check
-  report_checks places = len_checks ++ (check (nat_lt places (length report_text)) 23 0 0 ∷ [])
+-- what is printed: nothing, where a check fits
+abbrev pub printed_unless : List Check → List ℕ → List ℕ
+printed_unless checks text = if is_none (first_fit checks) then text else []

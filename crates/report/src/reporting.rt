@@ -1,11 +1,11 @@
 // The report, written into lent bytes.
-ghost use Rattle.std.specs.Prelude.{◌≡◌, ◌^◌, ◌<◌, [], length, is_ok, nat_lt, if◌then◌else◌, IfOk, OnOk};
+ghost use Rattle.std.specs.Prelude.{◌≡◌, ◌^◌, ◌<◌, ◌++◌, [], ◌∷◌, length, is_ok, nat_lt, if◌then◌else◌, IfOk, OnOk};
 ghost use Rattle.sheet.specs.Checks.{first_fit, fault_notice};
 ghost use Rattle.sheet.specs.Sheet.{onto_front};
 ghost use Rattle.inspection.specs.Lists.{entries};
 ghost use Rattle.hosts.specs.Pages.{onto_page, Filled};
 ghost use Rattle.report.specs.Faults.{notice_of_report};
-ghost use Rattle.report.specs.Reports.{view_of, report_text, printed_report, len_checks, report_checks};
+ghost use Rattle.report.specs.Reports.{view_of, report_text, printed_unless, len_checks, room_check};
 
 use crate::faults::ReportFault;
 use crate::printing::print_report;
@@ -27,9 +27,12 @@ pub fn report<F: Filter>(
     ee: &List<'_, EeName>,
     output: &mut [u8],
 ) -> Result<usize, ReportFault>
-    ensures fault { let v = view_of F.Filter.struck inspection.now points.now faces.now in
-        let checks = report_checks v (entries vf.now) (entries ee.now) in
-        fault_notice notice_of_report result ≡ first_fit (checks (length output.old)) }
+    ensures fault { let checks = len_checks inspection.now.draft points.now faces.now in
+        let v = view_of F.Filter.struck inspection.now points.now faces.now in
+        let text = report_text v (entries vf.now) (entries ee.now) in
+        let room = room_check text (length output.old) in
+        fault_notice notice_of_report result
+        ≡ first_fit (checks (entries vf.now) (entries ee.now) ++ (room ∷ [])) }
     ensures len { let v = view_of F.Filter.struck inspection.now points.now faces.now in
         IfOk result (λ n. n ≡ length (report_text v (entries vf.now) (entries ee.now))) }
     ensures output { let v = view_of F.Filter.struck inspection.now points.now faces.now in
@@ -51,9 +54,9 @@ pub fn report_len<F: Filter>(
     vf: &List<'_, VfName>,
     ee: &List<'_, EeName>,
 ) -> Result<usize, ReportFault>
-    ensures fault { let v = view_of F.Filter.struck inspection.now points.now faces.now in
-        let checks = len_checks v (entries vf.now) (entries ee.now) in
-        fault_notice notice_of_report result ≡ first_fit checks }
+    ensures fault { let checks = len_checks inspection.now.draft points.now faces.now in
+        fault_notice notice_of_report result
+        ≡ first_fit (checks (entries vf.now) (entries ee.now)) }
     ensures len { let v = view_of F.Filter.struck inspection.now points.now faces.now in
         IfOk result (λ n. n ≡ length (report_text v (entries vf.now) (entries ee.now))) }
 {
@@ -76,9 +79,9 @@ fn report_onto<F: Filter>(
     ee: &List<'_, EeName>,
     output: &mut [u8],
 ) -> Result<usize, ReportFault>
-    ensures fault { let v = view_of F.Filter.struck inspection.now points.now faces.now in
-        let checks = len_checks v (entries vf.now) (entries ee.now) in
-        fault_notice notice_of_report result ≡ first_fit checks }
+    ensures fault { let checks = len_checks inspection.now.draft points.now faces.now in
+        fault_notice notice_of_report result
+        ≡ first_fit (checks (entries vf.now) (entries ee.now)) }
     ensures len { let v = view_of F.Filter.struck inspection.now points.now faces.now in
         IfOk result (λ n. n ≡ length (report_text v (entries vf.now) (entries ee.now))) }
     ensures output { let v = view_of F.Filter.struck inspection.now points.now faces.now in
@@ -99,11 +102,13 @@ fn print_on<F: Filter>(
     ee: &List<'_, EeName>,
     page: &mut Page<'_>,
 ) -> Result<(), ReportFault>
-    ensures fault { let v = view_of F.Filter.struck inspection.now points.now faces.now in
-        let checks = len_checks v (entries vf.now) (entries ee.now) in
-        fault_notice notice_of_report result ≡ first_fit checks }
-    ensures shown { let v = view_of F.Filter.struck inspection.now points.now faces.now in
-        Filled page.old page.new (printed_report v (entries vf.now) (entries ee.now)) }
+    ensures fault { let checks = len_checks inspection.now.draft points.now faces.now in
+        fault_notice notice_of_report result
+        ≡ first_fit (checks (entries vf.now) (entries ee.now)) }
+    ensures shown { let checks = len_checks inspection.now.draft points.now faces.now in
+        let v = view_of F.Filter.struck inspection.now points.now faces.now in
+        let text = report_text v (entries vf.now) (entries ee.now) in
+        Filled page.old page.new (printed_unless (checks (entries vf.now) (entries ee.now)) text) }
     ensures short { let v = view_of F.Filter.struck inspection.now points.now faces.now in
         OnOk result (length (report_text v (entries vf.now) (entries ee.now)) < 2 ^ 40) }
 {

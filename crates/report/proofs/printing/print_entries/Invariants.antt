@@ -1,15 +1,17 @@
-use Rattle.std.proofs.Common.{◌*◌, ◌≤◌, length, take, flat_map, Ok}
+use Rattle.std.proofs.Common.{◌+◌, ◌*◌, ◌≤◌, length, drop, flat_map}
 use Rattle.inspection.specs.Lists.{entries}
-use Rattle.hosts.specs.Works.{Prints}
-use Rattle.report.specs.Reports.{view_of, numbered, entry_line}
+use Rattle.inspection.specs.Sheets.{sheet_of_rows}
+use Rattle.report.specs.Reports.{view_over, numbered, entry_line}
+use Rattle.report.proofs.Entries.{Leaves}
 use Rattle.report.proofs.printing.print_entries.Given as goal
 
--- the lines of the entries before are printed
-abbrev pub invariant-loop-i : goal.invariant-loop-i
-invariant-loop-i g l =
-    let v = view_of g.F.Filter.struck l.inspection l.points l.faces in
-    let done = flat_map (entry_line g.E.TestName.naming g.E.HasLine.kind v g.E.HasLine.line) (take l.i (numbered (entries l.list))) in
+-- with what is left to print, all is printed
+abbrev pub invariant-loop-e : goal.invariant-loop-e
+invariant-loop-e g l =
+    let line = entry_line g.E.TestName.naming (view_over g.F.Filter.struck l.inspection (sheet_of_rows l.rows)) g.E.HasLine.line in
+    let all = flat_map line (numbered (entries l.list)) in
+    let left = flat_map line (drop l.e-index (numbered (entries l.list))) in
     record {
-      printed : Prints g.H.Host.does g.H.Host.fails done l.fn.host (Ok (tt {0})) l.host;
-      short : length done ≤ 96 * l.i;
+      printed : Leaves g.H.Host.does g.H.Host.fails all left l.fn.host l.host;
+      short : length all ≤ 96 * l.e-index + length left;
     }

@@ -1,12 +1,17 @@
-use Rattle.std.proofs.Common.{◌≤◌}
+use Rattle.std.proofs.Common.{◌≡◌, ◌≤◌, ◌++◌, drop}
 use Rattle.arrayvec.specs.ArrayVec.{array_vec_len}
+use Rattle.inspection.specs.Classes.{entries_after, tally_after}
 use Rattle.inspection.specs.Judges.{rules_of}
-use Rattle.inspection.proofs.Going.{Going}
+use Rattle.inspection.specs.Tallies.{no_tests, total}
 use Rattle.inspection.proofs.classing.Judge.class_all.Given as goal
 
+-- what is left decides what comes out
 abbrev pub invariant-loop-e : goal.invariant-loop-e
 invariant-loop-e g l =
+    let j = rules_of g.F.Filter.struck g.E.TestName.naming l.self in
     record {
-      going : Going (rules_of g.F.Filter.struck g.E.TestName.naming l.self) l.old l.tests l.e-index l.new.items l.tally;
+      entries : entries_after j (l.old ++ l.new.items) (drop l.e-index l.tests) ≡ entries_after j l.old l.tests;
+      counts : tally_after j (l.old ++ l.new.items) (drop l.e-index l.tests) l.tally ≡ tally_after j l.old l.tests no_tests;
+      all : total l.tally ≡ l.e-index;
       few : array_vec_len l.new ≤ l.e-index;
     }

@@ -1,11 +1,11 @@
-use Rattle.std.proofs.Common.{◌≡◌, ℕ, ◌≤◌, take, ap, subst, arith}
+use Rattle.std.proofs.Common.{◌≡◌, ℕ, ◌≤◌, [], take, refl, ap, subst, arith}
 use Rattle.inspection.specs.Lists.{contents_of}
 use Rattle.inspection.specs.Sheets.{sheet_in}
-use Rattle.inspection.specs.Runs.{Run}
-use Rattle.inspection.specs.States.{Core, State, state_of}
+use Rattle.inspection.specs.Runs.{Run, opened}
+use Rattle.inspection.specs.States.{Core, State, state_of, state_at_start}
 use Rattle.inspection.specs.Requests.{history}
 use Rattle.inspection.proofs.Claiming.{claim}
-use Rattle.inspection.proofs.Working.{runs-on}
+use Rattle.inspection.proofs.Working.{worked-runs}
 use Rattle.inspection.proofs.inspections.working.inspect.Goals as goal
 
 pub returns-clause-run : goal.returns-clause-run
@@ -15,9 +15,10 @@ returns-clause-run g c =
     let n : l.i ≡ c.min-n.result = omega arith in
     let k : a.depth ≤ 6 = subst (λ (d : ℕ). d ≤ 6) (ap (λ (x : Core). x.depth) c.in_ok-inspection.ensures.core) c.in_ok-inspection.ensures.begins.depth in
     let set = g.F.Filter.struck a.filter in
+    let s : State = state_at_start a.draft a.depth (contents_of a.vf.now) (contents_of a.ee.now) in
     let t : State = state_of l.inspection l.vf l.ee in
     subst (λ (j : ℕ). Run set a.draft (sheet_in a.draft a.points.now a.faces.now) (history a.depth (take j a.requests.now) (take j l.answers)) t) n
-    (runs-on set a.points.now a.faces.now a.draft a.depth (contents_of a.vf.now) (contents_of a.ee.now) (take l.i a.requests.now) (take l.i l.answers) t k l.invariant.steps)
+    (worked-runs set a.points.now a.faces.now a.draft [] (take l.i a.requests.now) (take l.i l.answers) s t (opened (record { depth = k; core = refl; vf = refl; ee = refl })) l.invariant.steps)
 
 pub returns-clause-claim : goal.returns-clause-claim
 returns-clause-claim g c =
