@@ -32,7 +32,7 @@ pub(crate) fn has_room(scale: u8, depth: u8) -> bool
 /// What is struck whole is struck in every part, so the whole is asked first, and its halves only
 /// where it passed.
 #[cycle(striking)]
-#[tactic(auto, using(crate::proofs::Turns::whole_step))]
+#[tactic(auto, using(crate::proofs::Turns::all_struck, crate::proofs::Turns::whole_step))]
 pub(crate) fn struck<F: Filter>(filter: &F, test: &Test, depth: u8) -> bool
     requires { test.now.shape.scale + depth ≤ 6 }
     ensures { result ≡ struck_at (F.Filter.struck filter.now) depth test.now.shape }

@@ -35,7 +35,7 @@ fn window<F: Filter>(filter: &F, test: &Test, depth: u8) -> Option<(u8, u8)>
 
 /// What is struck whole is struck in every part, so the whole is asked first, and its halves only
 /// where it passed.
-#[tactic(auto, using(motion::proofs::Windows::first_whole, motion::proofs::Windows::first_step))]
+#[tactic(auto, using(motion::proofs::Windows::first_none, motion::proofs::Windows::first_whole, motion::proofs::Windows::first_step))]
 fn first_passed<F: Filter>(filter: &F, test: &Test, depth: u8) -> Option<u8>
     requires { test.now.shape.scale + depth ≤ 6 }
     ensures { result ≡ first_passed (F.Filter.struck filter.now) depth test.now.shape }
@@ -55,7 +55,7 @@ fn first_passed<F: Filter>(filter: &F, test: &Test, depth: u8) -> Option<u8>
 }
 
 /// The same from the end.
-#[tactic(auto, using(motion::proofs::Windows::last_whole, motion::proofs::Windows::last_step))]
+#[tactic(auto, using(motion::proofs::Windows::last_none, motion::proofs::Windows::last_whole, motion::proofs::Windows::last_step))]
 fn last_passed<F: Filter>(filter: &F, test: &Test, depth: u8) -> Option<u8>
     requires { test.now.shape.scale + depth ≤ 6 }
     ensures { result ≡ last_passed (F.Filter.struck filter.now) depth test.now.shape }

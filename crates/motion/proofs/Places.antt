@@ -25,7 +25,9 @@ between B r p q s e h hs he =
 
 pub within-at : (B p q : ℕ) (m : Moving) → p ≤ q → Within B m.start → Within B m.end → Within (B * q) (at p q m)
 unfolding at ◌+ᵛ◌ ◌·ᵛ◌
-within-at B p q m h s e = simp (left-over p q h) (between B (q - p) p q m.start.x m.end.x (omega arith) s.0 e.0, between B (q - p) p q m.start.y m.end.y (omega arith) s.1 e.1, between B (q - p) p q m.start.z m.end.z (omega arith) s.2 e.2)
+within-at B p q m h s e =
+    let c : q - p + p ≡ q = omega arith in
+    simp (left-over p q h) (between B (q - p) p q _ _ c s.0 e.0, between B (q - p) p q _ _ c s.1 e.1, between B (q - p) p q _ _ c s.2 e.2)
 
 pub within-minus : (B : ℕ) (u v : V3) → Within B u → Within B v → Within (2 * B) (u -ᵛ v)
 unfolding ◌-ᵛ◌

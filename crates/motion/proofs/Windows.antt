@@ -112,15 +112,17 @@ module _ (set : Shape → Bool) where
       }
 
   -- ---- how the first and the last are found: what is struck whole, by the laws
-  pub none_at : Lawful set → (d : ℕ) (t : Shape) → Valid t → t.scale + d ≤ 6 → true ≡ set t → (None ≡ first_passed set d t) × (None ≡ last_passed set d t)
-  unfolding struck_at first_passed last_passed
-  none_at l d t v k h =
-      let f = part d t in
-      let n = 2 ^ d in
-      let e = whole-struck set l d t v k (sym h) in (
-        sym (none-is (every f n ≡ true) (First f n) (first_lacking f n) (first-says f n) (λ i w. lacks-none f n i w.within w.here) e),
-        sym (none-is (every f n ≡ true) (Last f n) (last_lacking f n) (last-says f n) (λ i w. lacks-none f n i w.within w.here) e),
-      )
+  pub first_none : Lawful set → (d : ℕ) (t : Shape) → Valid t → t.scale + d ≤ 6 → true ≡ set t → None ≡ first_passed set d t
+  unfolding struck_at first_passed
+  first_none l d t v k h =
+      let lacks = λ (i : ℕ) (w : First (part d t) (2 ^ d) i). lacks-none (part d t) (2 ^ d) i w.within w.here in
+      sym (none-is _ (First (part d t) (2 ^ d)) _ (first-says (part d t) (2 ^ d)) lacks (whole-struck set l d t v k (sym h)))
+
+  pub last_none : Lawful set → (d : ℕ) (t : Shape) → Valid t → t.scale + d ≤ 6 → true ≡ set t → None ≡ last_passed set d t
+  unfolding struck_at last_passed
+  last_none l d t v k h =
+      let lacks = λ (i : ℕ) (w : Last (part d t) (2 ^ d) i). lacks-none (part d t) (2 ^ d) i w.within w.here in
+      sym (none-is _ (Last (part d t) (2 ^ d)) _ (last-says (part d t) (2 ^ d)) lacks (whole-struck set l d t v k (sym h)))
 
   -- the whole passed at depth 0
   pub first_whole : (d : ℕ) (t : Shape) → d ≡ 0 → set t ≡ false → first_passed set d t ≡ Some 0

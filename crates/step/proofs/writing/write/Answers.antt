@@ -13,4 +13,5 @@ returns-clause-back c =
     let k : c.points-count.result - 0 ≡ c.args.draft.now.points = omega (arith, c.points-count.ensures) in
     let same = ap (λ m. record_of (take m c.args.points.now)) k in
     let s = counted_step rows in
-    (s.0, s.1 ∙ sym (ap (take c.put_rows.result) (c.put_rows.ensures.out ∙ ap (λ r. onto_front r out) same) ∙ take_at (record_of rows) (drop (length (record_of rows)) out) _ (sym (c.put_rows.ensures.len ∙ ap length same))))
+    let front = take_at (record_of rows) (drop (length (record_of rows)) out) _ (sym (c.put_rows.ensures.len ∙ ap length same)) in
+    (s.0, s.1 ∙ sym (ap (take c.put_rows.result) (c.put_rows.ensures.out ∙ ap (λ r. onto_front r out) same) ∙ front))
