@@ -311,7 +311,7 @@ module _ {S E : Type 0} (does : S → Event PlanFile → S → Type 0) (fails : 
   start = begun ps fs (λ i. le-ltb (length ps) d.points points i || le-ltb (length fs) d.faces faces i)
 
   pub ran_in_part : (e : E) (r : Result Ending E) → OffersFile {X = Unit {0}} does fails delivered ps fs true s t h (Err e) m → r ≡ Err e → Ran does fails (AfterStep d ps fs) h r m
-  unfolding OffersFile
+  unfolding OffersFile AfterStep
   ran_in_part e r offers is =
       ran_short does fails (AfterStep d ps fs) (TellsFile delivered d ps fs (just_opened d) true t) h m e r is
       (λ es call (told, none). (
@@ -329,7 +329,7 @@ module _ {S E : Type 0} (does : S → Event PlanFile → S → Type 0) (fails : 
     pub ran : (r : Result Ending E) (k : S)
         → Prints does fails (report_in ps fs t) m r k
         → IfOk r (λ end. (end ≡ Complete) × Findings delivered t) → Ran does fails (AfterStep d ps fs) h r k
-    unfolding OffersFile
+    unfolding OffersFile AfterStep
     ran r k print found =
         let a = offers d (just_opened d) start in
         let told = a.good.0 in

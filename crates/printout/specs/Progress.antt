@@ -199,7 +199,7 @@ pub record HoldsPlan (p : Plan) (d : Draft) (ps : List Point) (fs : List Face) :
   pub draft : d ≡ draft p
   pub sheet : sheet_in d ps fs ≡ sheet p
 
-abbrev pub AfterStep : Draft → List Point → List Face
+unfoldable pub AfterStep : Draft → List Point → List Face
     → List (Event PlanFile) → Result Ending (Call PlanFile) → Type 0
 AfterStep d ps fs es how =
     NotRead SheetFile es × NotRead Step es
@@ -217,7 +217,7 @@ pub record HoldsSheet (p : Plan) (d : Draft) (ps : List Point) (fs : List Face) 
 abbrev pub after_sheet : Plan → ℕ → List PlanFile
 after_sheet p n = Step ∷ files_after (step_fault p) (replicate n Pairs)
 
-abbrev pub AfterSheet : Draft → List Point → List Face
+unfoldable pub AfterSheet : Draft → List Point → List Face
     → List (Event PlanFile) → Result Ending (Call PlanFile) → Type 0
 AfterSheet d ps fs es how =
     NotRead SheetFile es
