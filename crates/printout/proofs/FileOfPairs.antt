@@ -1,5 +1,5 @@
 -- The pairs of a plan's file: they are offered piece by piece, and then what is found is reported.
-use Rattle.std.proofs.Common.{◌≡◌, ℕ, ◌+◌, ◌-◌, ◌*◌, ◌/◌, ◌%◌, ◌≤◌, Bool, true, false, List, [], ◌∷◌, ◌++◌, All, length, take, drop, nat_lt, Ok, Err, Result, refl, sym, ap, ◌∙◌, subst, arith, append-nil, length-append, length-take, not, IsTrue, ◌||◌, if◌then◌else◌, replicate, Some, None, IfOk}
+use Rattle.std.proofs.Common.{◌≡◌, ℕ, ◌+◌, ◌-◌, ◌*◌, ◌/◌, ◌%◌, ◌≤◌, Bool, true, false, List, [], ◌∷◌, ◌++◌, All, length, take, drop, nat_lt, Ok, Err, Result, refl, sym, ap, ◌∙◌, subst, arith, append-nil, length-append, length-take, not, IsTrue, ◌||◌, if◌then◌else◌, replicate, Some, None, IfOk, IsFalse}
 use Rattle.std.proofs.lemmas.Bool.{ltb-true, ltb-false, le-ltb}
 use Rattle.std.proofs.lemmas.Result.{IfOk-weaker}
 use Rattle.std.proofs.lemmas.List.{take_all, take-append-drop, replicate-append-replicate}

@@ -8,7 +8,7 @@ use Rattle.hosts.specs.declared.memories.Memory.{Memory}
 use Rattle.hosts.proofs.Remembering.{fits, printed_shown, stored_shown}
 use Rattle.printout.specs.Memory.{left_in}
 use Rattle.printout.specs.Outcomes.{same_file, ReadsPlan, EndsWith}
-use Rattle.printout.specs.Plans.{Plan, bytes_of, fault, printout, needed, ClaimOfPlan}
+use Rattle.printout.specs.Plans.{Plan, bytes_of, fault, printout, ClaimOfPlan}
 use Rattle.printout.specs.declared.endings.Ending.{Ending}
 use Rattle.printout.specs.declared.endings.Ending.TheVariants.{Complete}
 use Rattle.printout.specs.declared.memory.PlanBytes.{PlanBytes}
@@ -17,8 +17,8 @@ use Rattle.printout.specs.declared.plan_files.PlanFile.{PlanFile}
 abbrev bytes_left : PlanBytes → PlanFile → List ℕ
 bytes_left b = bytes_of (left_in b)
 
-module _ (m n : Memory PlanBytes) (end : Ending) (run : Finished (Remembers same_file bytes_left) NeverFails (λ es end. (p : Plan) → ReadsPlan p es → EndsWith p (needed p) es end) m end n) where
-  ends : EndsWith (left_in m.files) (needed (left_in m.files)) run.events end
+module _ (m n : Memory PlanBytes) (end : Ending) (run : Finished (Remembers same_file bytes_left) NeverFails (λ es end. (p : Plan) → ReadsPlan p es → EndsWith p es end) m end n) where
+  ends : EndsWith (left_in m.files) run.events end
   ends = run.good (left_in m.files) (fits same_file bytes_left m n run.events run.went)
 
   pub ended : end ≡ (printout (left_in m.files)).ending
