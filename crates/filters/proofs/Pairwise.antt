@@ -1,5 +1,6 @@
 -- Stretches under one another are pairs under one another.
-use Rattle.std.proofs.Common.{◌≡◌, Bool, true, ◌&&◌, ◌||◌, ℤ, pos, ◌-ℤ◌, arith}
+use Rattle.std.proofs.Common.{◌≡◌, Bool, ◌&&◌, ◌||◌, ℤ, pos, ◌-ℤ◌, arith}
+use mathlib.Core.Bool.{and-true, and_assoc, and_comm}
 use lib.Signed.{lt_z}
 use borrow.Author.Differences.{ints}
 use Rattle.std.specs.List.{list_all}
@@ -22,18 +23,9 @@ above-zero x y = grind (arith, ints)
 below-zero : (x y : ℤ) → lt_z (x -ℤ y) (pos 0) ≡ lt_z x y
 below-zero x y = grind (arith, ints)
 
--- ---- in any order
-and-true : (a : Bool) → (a && true) ≡ a
-and-true a = grind arith
-
-and-assoc : (a b c : Bool) → ((a && b) && c) ≡ (a && (b && c))
-and-assoc a b c = grind arith
-
+-- in any order
 and-left : (a b c : Bool) → (a && (b && c)) ≡ (b && (a && c))
 and-left a b c = grind arith
-
-and-comm : (a b : Bool) → (a && b) ≡ (b && a)
-and-comm a b = grind arith
 
 -- every pair of points of the kind's features, at the start and at the end
 abbrev pairs_of : (V3 → Bool) → Kind → Moving → Moving → Moving → Moving → Bool
@@ -50,7 +42,7 @@ module _ (a b c p : ℤ) where
   two-under : under (joined (spot a) (spot b)) (joined (spot c) (spot p)) ≡ ((lt_z a c && lt_z a p) && (lt_z b c && lt_z b p))
   two-under = grind (arith, ints)
 
-ruleset pairwise = (three-under, under-three, two-under, dot-minus, above-zero, below-zero, and-true, and-assoc, and-left, and-comm)
+ruleset pairwise = (three-under, under-three, two-under, dot-minus, above-zero, below-zero, and-true, and_assoc, and-left, and_comm)
 
 stay-kind : (d : V3) (k : Kind) (p a b c : Moving)
     → stay_parted (sides_along d k p.start a.start b.start c.start) (sides_along d k p.end a.end b.end c.end)

@@ -1,5 +1,6 @@
 -- Struck at a depth, for every set that keeps the laws.
 use Rattle.std.proofs.Common.{◌≡◌, ℕ, zero, suc, ◌+◌, ◌^◌, ◌≤◌, Bool, true, ◌&&◌, sym, ap, ◌∙◌, arith}
+use mathlib.Core.Bool.{and-true, and_assoc}
 use Rattle.std.proofs.lemmas.Bool.{and_parts, and_from}
 use Rattle.motion.specs.declared.shapes.Shape.{Shape}
 use Rattle.motion.specs.Laws.{Valid, gap, Apart, Lawful, subinterval, half}
@@ -7,17 +8,11 @@ use Rattle.motion.specs.Depths.{every, struck_at, Struck}
 use Rattle.motion.proofs.Subintervals.{twice, in-first, in-last, whole, valid-first, valid-last}
 use Rattle.motion.proofs.HalvesApart.{halves-apart}
 
-and-assoc : (a b c : Bool) → ((a && b) && c) ≡ (a && (b && c))
-and-assoc a b c = grind arith
-
-and-true : (a : Bool) → a ≡ (a && true)
-and-true a = grind arith
-
 every-more : (f : ℕ → Bool) (m n : ℕ) → every f (m + n) ≡ (every f m && every (λ j. f (m + j)) n)
-every-more f m zero = let e : m + 0 ≡ m = omega arith in ap (every f) e ∙ and-true (every f m)
+every-more f m zero = let e : m + 0 ≡ m = omega arith in ap (every f) e ∙ sym (and-true (every f m))
 every-more f m (suc n) =
     let e : m + suc n ≡ suc (m + n) = omega arith in
-    ap (every f) e ∙ ap (λ b. b && f (m + n)) (every-more f m n) ∙ and-assoc (every f m) (every (λ j. f (m + j)) n) (f (m + n))
+    ap (every f) e ∙ ap (λ b. b && f (m + n)) (every-more f m n) ∙ and_assoc (every f m) (every (λ j. f (m + j)) n) (f (m + n))
 
 module _ (set : Shape → Bool) where
   pub struck-whole : (t : Shape) → struck_at set 0 t ≡ set t

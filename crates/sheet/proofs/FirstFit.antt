@@ -1,5 +1,5 @@
 -- Which check fits first, of some checks and those after them.
-use Rattle.std.proofs.Common.{◌≡◌, Bool, true, false, cond, List, [], ◌∷◌, ◌++◌, Some, None, Option, refl, ap, ◌∙◌, arith}
+use Rattle.std.proofs.Common.{◌≡◌, Bool, false, cond, List, [], ◌∷◌, ◌++◌, Some, None, Option, refl, ap, ◌∙◌, arith}
 use Rattle.std.specs.Option.{option_or}
 use Rattle.sheet.specs.Checks.{Check, first_fit}
 use Rattle.sheet.specs.declared.notices.Notice.{Notice}
@@ -21,18 +21,10 @@ stop cs ds n e = rw (first_fit_append cs ds, ← e) refl
 
 -- where none fits, the front one does not
 pub no_fit : (c : Check) (cs : List Check) → first_fit (c ∷ cs) ≡ None → (c.fits ≡ false) × (first_fit cs ≡ None)
-no_fit c cs e = by_fit c.fits c.tells (first_fit cs) e
-  where
-    by_fit : (b : Bool) (n : Notice) (o : Option Notice) → cond b (Some n) o ≡ None → (b ≡ false) × (o ≡ None)
-    by_fit true n o e = (cc, cc)
-    by_fit false n o e = (refl, e)
+no_fit c cs e = (grind arith, grind arith)
 
 pub none_parts : (cs ds : List Check) → first_fit (cs ++ ds) ≡ None → (first_fit cs ≡ None) × (first_fit ds ≡ None)
-none_parts cs ds e = both (first_fit cs) (first_fit ds) (rw first_fit_append at e)
-  where
-    both : (o p : Option Notice) → option_or o p ≡ None → (o ≡ None) × (p ≡ None)
-    both None p e = (refl, e)
-    both (Some n) p e = (cc, cc)
+none_parts cs ds e = let both = rw first_fit_append at e in (grind arith, grind arith)
 
 -- not one fits
 abbrev pub NoneFits : List Check → Type 0

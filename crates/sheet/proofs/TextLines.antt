@@ -8,8 +8,7 @@ by_byte true x xs n e = refl
 by_byte false x xs n e = let k : 1 + n ≡ suc n = omega arith in rw (k, add-one) (ap (onto_first x) (rw add-one at e))
 
 by_last : (b : Bool) (x : ℕ) → cond b ([] ∷ lines_of []) (onto_first x (lines_of [])) ≡ take (cond (not b) (1 + 0) 0) (x ∷ []) ∷ lines_of (drop (cond (not b) (1 + 0) 0 + 1) (x ∷ []))
-by_last true x = refl
-by_last false x = refl
+by_last b x = grind arith
 
 -- the first line, and those after it
 pub lines_first : (xs : List ℕ) → 0 < length xs → lines_of xs ≡ before_first (λ b. eqb b 10) xs ∷ lines_of (after_first (λ b. eqb b 10) xs)

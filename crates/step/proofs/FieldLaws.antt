@@ -58,19 +58,15 @@ pub record WrittenSo (stands : Bool) (s : ℤ) (bs : List ℕ) : Type 0 where
   pub bit : is_zero (end_in stands s bs -ℤ s) ≡ not stands
   pub bytes : field_of (end_in stands s bs -ℤ s) ++ after_field stands bs ≡ bs
 
-low : (l h : ℕ) → l < 256 → h < 256 → (l + h * 256) % 256 ≡ l
-low l h a b = omega arith
-
-high : (l h : ℕ) → l < 256 → h < 256 → (l + h * 256) / 256 % 256 ≡ h
-high l h a b = let q : (l + h * 256) / 256 ≡ h = omega arith in let w : h % 256 ≡ h = omega arith in ap (λ v. v % 256) q ∙ w
-
 spelt : (l h : ℕ) (r : List ℕ) → l < 256 → h < 256 → is_zero (move_in (l ∷ (h ∷ r))) ≡ false → field_of (move_in (l ∷ (h ∷ r))) ++ r ≡ l ∷ (h ∷ r)
 spelt l h r a b z =
     let u : word (move_in (l ∷ (h ∷ r))) ≡ l + h * 256 = of_z-to_z w16 (l + h * 256) (omega arith) in
+    let low : (l + h * 256) % 256 ≡ l = omega arith in
+    let both : (l + h * 256) / 256 ≡ h = omega arith in
+    let high : h % 256 ≡ h = omega arith in
     ap (λ t. t ++ r) (cond-false _ [] (word (move_in (l ∷ (h ∷ r))) % 256 ∷ (word (move_in (l ∷ (h ∷ r))) / 256 % 256 ∷ [])) z)
     ∙ ap (λ v. v % 256 ∷ (v / 256 % 256 ∷ r)) u
-    ∙ ap (λ v. v ∷ ((l + h * 256) / 256 % 256 ∷ r)) (low l h a b)
-    ∙ ap (λ v. l ∷ (v ∷ r)) (high l h a b)
+    ∙ rw (low, both, high) refl
 
 two_or_more : (bs : List ℕ) → Bytes bs → 2 ≤ length bs → is_zero (move_in bs) ≡ false → field_of (move_in bs) ++ drop 2 bs ≡ bs
 two_or_more [] B l z = absurd (omega arith)

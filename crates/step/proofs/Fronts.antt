@@ -72,8 +72,7 @@ module _ (n : ℕ) {ys bs : List ℕ} (f : Front (n + 8) ys bs) where
       empty = ap (λ l. length l == 0) f.is ∙ (let l = length-take f.size bs in grind (arith, nat_tests))
 
 shorter : (stands : Bool) (xs : List ℕ) → length xs ≤ length (after_field stands xs) + 2
-shorter true xs = omega (arith, length-drop 2 xs)
-shorter false xs = omega arith
+shorter stands xs = let l = length-drop 2 xs in grind arith
 
 row_length : (bs : List ℕ) → length bs ≤ length (after_row bs) + 7
 row_length bs =

@@ -30,8 +30,7 @@ lay_only (Ok x) n points after bs B a t =
 lay_only (Err e) n points after bs B a t = tt
 
 was_good : (r : Result (Unit {0}) StepFault) → fault_notice notice_of_step r ≡ None → is_ok r ≡ true
-was_good (Ok y) e = refl
-was_good (Err d) e = cc
+was_good r e = grind arith
 
 -- what the writer makes is accepted, and gives its rows back
 pub lay_back : (r : Result (Unit {0}) StepFault) (n : ℕ) (points after qs : List Point) (bs : List ℕ) → fault_notice notice_of_step r ≡ first_fit (lay_checks n points bs) → after ≡ cond (is_ok r) (onto_front (with_ends (take n points) bs) points) points → n ≤ length points → Step (take n points) bs qs → (is_ok r ≡ true) × (take n after ≡ qs)
