@@ -1,5 +1,5 @@
 -- Two frames that do not differ: the step between them.
-use Rattle.std.proofs.Common.{◌≡◌, Bool, true, false, cond, eqb, List, [], ◌∷◌, length, Some, None, Option, refl, arith}
+use Rattle.std.proofs.Common.{◌≡◌, List, [], ◌∷◌, length, None, refl, arith}
 use Rattle.std.specs.List.{All}
 use Rattle.std.proofs.lemmas.Bool.Decides.{nat_tests}
 use Rattle.std.proofs.lemmas.List.Elements.{All-head, All-tail}
@@ -9,7 +9,6 @@ use Rattle.sheet.specs.declared.rows.Face.{Face}
 use Rattle.sheet.specs.declared.rows.Point.{Point}
 use Rattle.frames.specs.Comparing.{difference_of, ending_at}
 use Rattle.step.specs.Steps.{Ends}
-use Rattle.frames.specs.declared.comparing.Difference.{Difference}
 
 -- they have as many points
 pub same_count : (d e : Draft) (fs gs : List Face) → difference_of d fs e gs ≡ None → d.points ≡ e.points

@@ -1,15 +1,14 @@
 -- What two frames in memory come to.
-use Rattle.std.proofs.Common.{arith, ◌≡◌, ℕ, List, [], ◌∷◌, Some, None, IfSome, unwrap_or, refl, sym, ap, subst, ◌∙◌}
+use Rattle.std.proofs.Common.{arith, ◌≡◌, ℕ, List, [], unwrap_or, sym, ap, subst, ◌∙◌}
 use Rattle.std.proofs.lemmas.List.{append-nil}
-use Rattle.hosts.specs.Events.{Printed, printed, stored}
+use Rattle.hosts.specs.Events.{printed, stored}
 use Rattle.hosts.specs.Memory.{Remembers}
 use Rattle.hosts.specs.Pages.{Shows, Filled, NeverFails}
 use Rattle.hosts.specs.Works.{Finished}
 use Rattle.hosts.specs.declared.memories.Memory.{Memory}
 use Rattle.hosts.proofs.Remembering.{fits, printed_shown, stored_shown}
 use Rattle.hosts.proofs.Writing.{printed-writes, stored-writes}
-use Rattle.step.specs.Steps.{Step}
-use Rattle.frames.specs.Frames.{Frames, text_of, points_of, step_between}
+use Rattle.frames.specs.Frames.{Frames, text_of}
 use Rattle.frames.specs.Memory.{frames_in}
 use Rattle.frames.specs.Outcomes.{Outcome, outcome, with_line_feed, writes_of}
 use Rattle.frames.specs.Works.{same_file, ReadsFrames, EndsAs}
