@@ -1,12 +1,10 @@
 // An inspection with a filter of one's own, call by call.
 ghost use Rattle.std.specs.Prelude.{◌≡◌, ◌↔◌, IsNone, IsSome, IfNone, IfSome};
 ghost use Rattle.inspection.specs.declared.offerings.Offering.TheVariants.{Faces};
-ghost use Rattle.inspection.specs.Sheets.{sheet_in};
 ghost use Rattle.inspection.specs.Lists.{contents_of, without_entries};
 ghost use Rattle.inspection.specs.States.{state_of, state_at_start};
 ghost use Rattle.inspection.specs.Offers.{OfferStep};
-ghost use Rattle.inspection.specs.Claims.{Claim};
-ghost use Rattle.own_filter.specs.ByHand.{fault_of_offer, after_both, accepted_of_both, counts_in};
+ghost use Rattle.own_filter.specs.ByHand.{fault_of_offer, Offered};
 
 use filters::Filter;
 use inspection::{Counts, EeName, Inspection, List, OfferFault, Offering, VfName};
@@ -34,18 +32,10 @@ pub fn inspect_by_hand<F: Filter + Drop>(
         IsNone result ↔ IsSome fault }
     ensures refused_vf { IfNone result (contents_of vf.new ≡ without_entries (contents_of vf.old)) }
     ensures refused_ee { IfNone result (contents_of ee.new ≡ without_entries (contents_of ee.old)) }
-    ensures state { let set = F.Filter.struck filter in
+    ensures offered { let set = F.Filter.struck filter in
         let start = state_at_start draft 2 (contents_of vf.old) (contents_of ee.old) in
-        let end = after_both set points.now faces.now first second start in
-        IfSome result (λ counts. (counts ≡ counts_in end)
-        × (contents_of vf.new ≡ end.vf) × (contents_of ee.new ≡ end.ee)) }
-    ensures claim { let set = F.Filter.struck filter in
-        let sheet = sheet_in draft points.now faces.now in
-        let start = state_at_start draft 2 (contents_of vf.old) (contents_of ee.old) in
-        let end = after_both set points.now faces.now first second start in
-        let history = accepted_of_both set points.now faces.now first second start in
-        IfSome result (λ counts.
-        Claim set draft sheet history end.core end.vf.entries end.ee.entries) }
+        IfSome result (λ counts. Offered set points.now faces.now first second start counts
+        (contents_of vf.new) (contents_of ee.new)) }
 {
     let inspection = open(draft, filter, vf, ee);
     let Some(mut inspection) = accepted(inspection, points, faces, vf, ee, first, second) else {
@@ -80,6 +70,7 @@ fn open<F: Filter + Drop>(
 }
 
 /// The inspection after an offer, or none where that is refused.
+#[tactic(auto, unfolding(crate::specs::ByHand::fault_of_offer))]
 fn accepted<F: Filter + Drop>(
     mut inspection: Inspection<F>,
     points: &[Point],
