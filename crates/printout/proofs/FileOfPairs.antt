@@ -21,7 +21,7 @@ use Rattle.inspection.specs.PairBytes.{number_of, offers_in}
 use Rattle.inspection.specs.Sheets.{sheet_in, Sheet}
 use Rattle.inspection.specs.States.{State, core_at_start}
 use Rattle.printout.specs.Outcomes.{same_file}
-use Rattle.printout.specs.Progress.{NotRead, Made, told_of, Tells, TellsPairs, Offers, pairs_came, PieceCame, CameTo, TellsFile, OffersFile, Listed, Begins, Reportable, only_text, nothing_told, ◌⊕◌, told_by, LeavesUntold, TellsText, TellsPieces, plan_told, Ends, Comes, FitsFile, HoldsPlan, AfterStep}
+use Rattle.printout.specs.Progress.{NotRead, Made, told_of, Tells, TellsPairs, Offers, pairs_came, PieceCame, CameTo, TellsFile, OffersFile, Listed, Begins, Reportable, only_text, nothing_told, ◌⊕◌, told_by, LeavesUntold, TellsText, TellsPieces, plan_told, Ends, Comes, FitsFile, HoldsPlan, AfterStep, RunsFromPairs}
 use Rattle.printout.specs.Walks.{Walk, offered, walked, Found, depth, places, just_opened, refusal_lines, refused_pairs}
 use Rattle.printout.specs.declared.plan_files.PlanFile.{PlanFile}
 use Rattle.printout.specs.declared.plan_files.PlanFile.TheVariants.{Pairs, Sheet as SheetFile, Step as StepFile}
@@ -31,8 +31,6 @@ use Rattle.sheet.proofs.FirstFit.{past}
 use Rattle.motion.specs.Rows.{delivered}
 use Rattle.inspection.specs.declared.kinds.ListKind.{ListKind}
 use Rattle.inspection.specs.declared.kinds.ListKind.TheVariants.{Vf, Ee}
-use Rattle.inspection.specs.declared.names.VfName.{VfName}
-use Rattle.inspection.specs.declared.names.EeName.{EeName}
 use Rattle.inspection.specs.Claims.{Claim, Findings}
 use Rattle.inspection.specs.Lists.{Contents}
 use Rattle.inspection.specs.Offers.{lacks_rows}
@@ -182,7 +180,14 @@ module _ {S E : Type 0} (does : S → Event PlanFile → S → Type 0) (fails : 
       ran_short does fails (TellsFile set d ps fs w true v) (TellsFile set d ps fs w is_last u) h k e r is (λ es call told. told)
       (piece_offered is_last s t u h i j k size chunk (Err e) going piece offers d w m)
 
--- ---- no check of the report fits entries that are of the sheet
+-- ---- what is reported of a state
+abbrev pub view : List Point → List Face → State → View
+view ps fs s = record { set = delivered; core = s.core; sheet = sheet_in s.core.draft ps fs; lacks_rows = lacks_rows s.core.draft ps fs }
+
+abbrev pub report_in : List Point → List Face → State → List ℕ
+report_in ps fs s = report_text (view ps fs s) s.vf.entries s.ee.entries
+
+-- no check of the report fits entries that are of the sheet
 no_stray : {E : Type 0} (n : Naming E) (l : ListKind) (v : View) (i : ℕ) (es : List E) → All (λ e. IsTrue (n.inside v.sheet e)) es → first_fit (checks_from n l v i es) ≡ None
 no_stray n l v i [] all = refl
 no_stray n l v i (e ∷ es) all =
@@ -190,13 +195,14 @@ no_stray n l v i (e ∷ es) all =
     ap (λ b. if not b then Some (check (not b) 19 i (place_of l)).tells else first_fit (checks_from n l v (i + 1) es)) inside
     ∙ no_stray n l v (i + 1) es (All-tail (λ x. IsTrue (n.inside v.sheet x)) e es all)
 
-pub no_faults : (v : View) (vf : List VfName) (ee : List EeName) → Reportable v vf ee → None ≡ first_fit (len_checks v vf ee)
+pub no_faults : (v : View) (s : State) → Reportable v s → None ≡ first_fit (len_checks v s.vf.entries s.ee.entries)
 unfolding Reportable
-no_faults v vf ee (rows, (vfs, ees)) =
-    let first = no_stray vf_naming Vf v 0 (numbered vf) (All-take (λ e. IsTrue (vf_naming.inside v.sheet e)) entry_limit vf vfs) in
-    let second = no_stray ee_naming Ee v 0 (numbered ee) (All-take (λ e. IsTrue (ee_naming.inside v.sheet e)) entry_limit ee ees) in
-    sym (ap (λ b. if b then Some (check b 16 0 0).tells else first_fit (entry_checks vf_naming Vf v vf ++ entry_checks ee_naming Ee v ee)) rows
-    ∙ sym (past (entry_checks vf_naming Vf v vf) (entry_checks ee_naming Ee v ee) (sym first)) ∙ second)
+no_faults v s (rows, vfs, ees) =
+    let vf = entry_checks vf_naming Vf v s.vf.entries in
+    let ee = entry_checks ee_naming Ee v s.ee.entries in
+    let first = no_stray vf_naming Vf v 0 (numbered s.vf.entries) (All-take (λ e. IsTrue (vf_naming.inside v.sheet e)) entry_limit s.vf.entries vfs) in
+    let second = no_stray ee_naming Ee v 0 (numbered s.ee.entries) (All-take (λ e. IsTrue (ee_naming.inside v.sheet e)) entry_limit s.ee.entries ees) in
+    sym (ap (λ b. if b then Some (check b 16 0 0).tells else first_fit (vf ++ ee)) rows ∙ sym (past vf ee (sym first)) ∙ second)
 
 -- ---- an inspection that is just opened has made no step of the walk
 pub made_none : (d : Draft) (s : State) → Opened d s → s.core ≡ core_at_start d depth → length s.vf.rest ≡ places → length s.ee.rest ≡ places → Begins d s
@@ -218,13 +224,6 @@ made_none d s o core vf ee ps fs rows =
           room = ap (λ es. length es + length list.rest) none ∙ omega (arith, room);
           inside = subst (All (λ e. IsTrue (n.inside sheet e))) (sym none) (All-nil (λ e. IsTrue (n.inside sheet e)));
         }
-
--- what is reported of a state
-abbrev pub view : List Point → List Face → State → View
-view ps fs t = record { set = delivered; core = t.core; sheet = sheet_in t.core.draft ps fs; lacks_rows = lacks_rows t.core.draft ps fs }
-
-abbrev pub report_in : List Point → List Face → State → List ℕ
-report_in ps fs t = report_text (view ps fs t) t.vf.entries t.ee.entries
 
 -- ---- of a plan that the tables hold
 module _ (p : Plan) (d : Draft) (ps : List Point) (fs : List Face) (h : HoldsPlan p d ps fs) where
@@ -308,8 +307,8 @@ module _ {S E : Type 0} (does : S → Event PlanFile → S → Type 0) (fails : 
   unfolding Begins
   start = begun ps fs (λ i. le-ltb (length ps) d.points points i || le-ltb (length fs) d.faces faces i)
 
-  pub ran_in_part : (e : E) (r : Result Ending E) → OffersFile {X = Unit {0}} does fails delivered ps fs true s t h (Err e) m → r ≡ Err e → Ran does fails (AfterStep d ps fs) h r m
-  unfolding OffersFile AfterStep
+  pub ran_in_part : (e : E) (r : Result Ending E) → OffersFile {X = Unit {0}} does fails delivered ps fs true s t h (Err e) m → r ≡ Err e → RunsFromPairs does fails d ps fs h r m
+  unfolding OffersFile RunsFromPairs
   ran_in_part e r offers is =
       ran_short does fails (AfterStep d ps fs) (TellsFile delivered d ps fs (just_opened d) true t) h m e r is
       (λ es call (told, none). (
@@ -320,14 +319,14 @@ module _ {S E : Type 0} (does : S → Event PlanFile → S → Type 0) (fails : 
       (offers d (just_opened d) start)
 
   module _ (offers : OffersFile {X = Unit {0}} does fails delivered ps fs true s t h (Ok tt) m) where
-    pub reportable : Reportable (view ps fs t) t.vf.entries t.ee.entries
+    pub reportable : Reportable (view ps fs t) t
     unfolding Reportable OffersFile
-    reportable = let made = (offers d (just_opened d) start).good.1.1 in (made.rows, (made.vf.inside, made.ee.inside))
+    reportable = let made = (offers d (just_opened d) start).good.1.1 in (made.rows, made.vf.inside, made.ee.inside)
 
     pub ran : (r : Result Ending E) (k : S)
         → Prints does fails (report_in ps fs t) m r k
-        → IfOk r (λ end. (end ≡ Complete) × Findings delivered t) → Ran does fails (AfterStep d ps fs) h r k
-    unfolding OffersFile AfterStep
+        → IfOk r (λ end. (end ≡ Complete) × Findings delivered t) → RunsFromPairs does fails d ps fs h r k
+    unfolding OffersFile RunsFromPairs
     ran r k print found =
         let a = offers d (just_opened d) start in
         let told = a.good.0 in

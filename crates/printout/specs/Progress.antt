@@ -16,8 +16,6 @@ use Rattle.inspection.specs.Sheets.{Sheet, sheet_in}
 use Rattle.inspection.specs.States.{State}
 use Rattle.inspection.specs.Tests.{Naming, vf_naming, ee_naming}
 use Rattle.inspection.specs.PairBytes.{offers_in}
-use Rattle.inspection.specs.declared.names.VfName.{VfName}
-use Rattle.inspection.specs.declared.names.EeName.{EeName}
 use Rattle.report.specs.Reports.{View, AllInside}
 use Rattle.printout.specs.Outcomes.{same_file}
 use Rattle.printout.specs.Printouts.{notice_line}
@@ -55,8 +53,9 @@ Begins d s =
     → Made delivered d ps fs (just_opened d) s
 
 -- no check of a report fits: its tables are there, and what is listed is of the sheet
-unfoldable pub Reportable : View → List VfName → List EeName → Type 0
-Reportable v vf ee = IsFalse v.lacks_rows × (AllInside vf_naming v vf × AllInside ee_naming v ee)
+unfoldable pub Reportable : View → State → Type 0
+Reportable v s =
+    IsFalse v.lacks_rows × AllInside vf_naming v s.vf.entries × AllInside ee_naming v s.ee.entries
 
 -- ---- what is told: all that is printed, and all that is stored
 pub record Told : Type 0 where
@@ -198,7 +197,7 @@ pub record HoldsPlan (p : Plan) (d : Draft) (ps : List Point) (fs : List Face) :
   pub draft : d ≡ draft p
   pub sheet : sheet_in d ps fs ≡ sheet p
 
-unfoldable pub AfterStep : Draft → List Point → List Face
+abbrev pub AfterStep : Draft → List Point → List Face
     → List (Event PlanFile) → Result Ending (Call PlanFile) → Type 0
 AfterStep d ps fs es how =
     NotRead SheetFile es × NotRead Step es
@@ -216,9 +215,16 @@ pub record HoldsSheet (p : Plan) (d : Draft) (ps : List Point) (fs : List Face) 
 abbrev pub after_sheet : Plan → ℕ → List PlanFile
 after_sheet p n = Step ∷ files_after (step_fault p) (replicate n Pairs)
 
-unfoldable pub AfterSheet : Draft → List Point → List Face
+abbrev pub AfterSheet : Draft → List Point → List Face
     → List (Event PlanFile) → Result Ending (Call PlanFile) → Type 0
 AfterSheet d ps fs es how =
     NotRead SheetFile es
     × ((p : Plan) → HoldsSheet p d ps fs → FitsFile Step p.step es → FitsFile Pairs p.pairs es
     → Comes p (after_sheet p) es how)
+
+module _ {S E : Type 0} (does : S → Event PlanFile → S → Type 0) (fails : S → Call PlanFile → E → S → Type 0) (d : Draft) (ps : List Point) (fs : List Face) where
+  unfoldable pub RunsFromPairs : S → Result Ending E → S → Type 0
+  RunsFromPairs s r t = Ran does fails (AfterStep d ps fs) s r t
+
+  unfoldable pub RunsFromStep : S → Result Ending E → S → Type 0
+  RunsFromStep s r t = Ran does fails (AfterSheet d ps fs) s r t
