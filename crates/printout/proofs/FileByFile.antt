@@ -29,7 +29,7 @@ use Rattle.sheet.specs.declared.notices.Notice.{Notice}
 use Rattle.inspection.specs.PairBytes.{offers_in}
 use Rattle.motion.specs.Rows.{delivered}
 use Rattle.printout.specs.Printouts.{notice_line}
-use Rattle.printout.specs.Progress.{◌⊕◌, told_by, LeavesUntold, TellsText, FitsFile, NotRead, HoldsSheet, HoldsPlan, plan_told, Ends, Comes, after_sheet, AfterSheet, AfterStep}
+use Rattle.printout.specs.Progress.{◌⊕◌, told_by, LeavesUntold, TellsText, FitsFile, NotRead, HoldsSheet, HoldsPlan, plan_told, Ends, Comes, after_sheet, AfterSheet, AfterStep, RunsFromPairs, RunsFromStep}
 use Rattle.printout.specs.Walks.{just_opened, walked, refusal_lines}
 use Rattle.printout.specs.declared.endings.Ending.TheVariants.{Complete, Faulty}
 use Rattle.printout.specs.declared.plan_files.PlanFile.TheVariants.{Pairs, Sheet, Step}
@@ -200,8 +200,8 @@ module _ {S E : Type 0} (does : S → Event PlanFile → S → Type 0) (fails : 
         r (told_print does fails (λ e. e ≡ Faulty) m t (notice_line n) r print faulty))
 
     pub sheet_accepted : (d : Draft) (ps qs : List Point) (fs gs : List Face) → None ≡ first_fit (sheet_checks text point_limit face_limit) → d ≡ draft_of text
-        → (r : Result Ending E) → qs ≡ onto_front (points_in (numbered text)) ps → gs ≡ onto_front (faces_in (numbered text)) fs → Ran does fails (AfterSheet d qs gs) m r t → Inspects does fails s r t
-    unfolding AfterSheet
+        → (r : Result Ending E) → qs ≡ onto_front (points_in (numbered text)) ps → gs ≡ onto_front (faces_in (numbered text)) fs → RunsFromStep does fails d qs gs m r t → Inspects does fails s r t
+    unfolding RunsFromStep
     sheet_accepted d ps qs fs gs none draft r points faces ran =
         inspects s t r
         (ran_after does fails Whole (AfterSheet d qs gs) s m t (Read Sheet size text ∷ []) (next (Read Sheet size text) nothing did)
@@ -216,16 +216,16 @@ module _ {S E : Type 0} (does : S → Event PlanFile → S → Type 0) (fails : 
     also : (es : List (Event PlanFile)) (size : ℕ) (bytes : List ℕ) → NotRead Sheet es → NotRead Sheet (Read Step size bytes ∷ es)
     also es size bytes later = All-cons (λ g. same_file Sheet g ≡ false) Step (files_read es) refl later
 
-    pub step_unread : (s t : S) (e : E) (r : Result Ending E) → fails s (Reading Step) e t → r ≡ Err e → Ran does fails (AfterSheet d ps fs) s r t
-    unfolding AfterSheet
+    pub step_unread : (s t : S) (e : E) (r : Result Ending E) → fails s (Reading Step) e t → r ≡ Err e → RunsFromStep does fails d ps fs s r t
+    unfolding RunsFromStep
     step_unread s t e r f is =
         ran_none does fails (AfterSheet d ps fs) s t (Reading Step) e r is f
         (All-nil (λ g. same_file Sheet g ≡ false), λ p holds step pairs. comes_unread p (after_sheet p) Step (files_after (step_fault p) []) refl)
 
     module _ (s m t : S) (size : ℕ) (bytes : List ℕ) (did : does s (Read Step size bytes) m) (limit : size ≡ record_limit + 1) (room : d.points ≤ length ps) (few : d.points ≤ point_limit) where
       pub step_faulty : (n : Notice) → Some n ≡ first_fit (lay_checks d.points ps bytes) → (r : Result Ending E) → Prints does fails (notice_line n) m r t → IfOk r (λ e. e ≡ Faulty)
-          → Ran does fails (AfterSheet d ps fs) s r t
-      unfolding AfterSheet
+          → RunsFromStep does fails d ps fs s r t
+      unfolding RunsFromStep
       step_faulty n fits r print faulty =
           ran_after does fails (AfterSheet d ps fs) (TellsText (notice_line n) (λ e. e ≡ Faulty)) s m t (Read Step size bytes ∷ []) (next (Read Step size bytes) nothing did)
           (λ es how told. (
@@ -238,8 +238,8 @@ module _ {S E : Type 0} (does : S → Event PlanFile → S → Type 0) (fails : 
           r (told_print does fails (λ e. e ≡ Faulty) m t (notice_line n) r print faulty)
 
       pub step_accepted : None ≡ first_fit (lay_checks d.points ps bytes) → (qs : List Point) (r : Result Ending E) → qs ≡ onto_front (with_ends (take d.points ps) bytes) ps
-          → Ran does fails (AfterStep d qs fs) m r t → Ran does fails (AfterSheet d ps fs) s r t
-      unfolding AfterStep AfterSheet
+          → RunsFromPairs does fails d qs fs m r t → RunsFromStep does fails d ps fs s r t
+      unfolding RunsFromPairs RunsFromStep
       step_accepted none qs r rows ran =
           ran_after does fails (AfterSheet d ps fs) (AfterStep d qs fs) s m t (Read Step size bytes ∷ []) (next (Read Step size bytes) nothing did)
           (λ es how later. (

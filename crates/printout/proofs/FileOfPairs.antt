@@ -21,7 +21,7 @@ use Rattle.inspection.specs.PairBytes.{number_of, offers_in}
 use Rattle.inspection.specs.Sheets.{sheet_in, Sheet}
 use Rattle.inspection.specs.States.{State, core_at_start}
 use Rattle.printout.specs.Outcomes.{same_file}
-use Rattle.printout.specs.Progress.{NotRead, Made, told_of, Tells, TellsPairs, Offers, pairs_came, PieceCame, CameTo, TellsFile, OffersFile, Listed, Begins, Reportable, only_text, nothing_told, ◌⊕◌, told_by, LeavesUntold, TellsText, TellsPieces, plan_told, Ends, Comes, FitsFile, HoldsPlan, AfterStep}
+use Rattle.printout.specs.Progress.{NotRead, Made, told_of, Tells, TellsPairs, Offers, pairs_came, PieceCame, CameTo, TellsFile, OffersFile, Listed, Begins, Reportable, only_text, nothing_told, ◌⊕◌, told_by, LeavesUntold, TellsText, TellsPieces, plan_told, Ends, Comes, FitsFile, HoldsPlan, AfterStep, RunsFromPairs}
 use Rattle.printout.specs.Walks.{Walk, offered, walked, Found, depth, places, just_opened, refusal_lines, refused_pairs}
 use Rattle.printout.specs.declared.plan_files.PlanFile.{PlanFile}
 use Rattle.printout.specs.declared.plan_files.PlanFile.TheVariants.{Pairs, Sheet as SheetFile, Step as StepFile}
@@ -31,8 +31,6 @@ use Rattle.sheet.proofs.FirstFit.{past}
 use Rattle.motion.specs.Rows.{delivered}
 use Rattle.inspection.specs.declared.kinds.ListKind.{ListKind}
 use Rattle.inspection.specs.declared.kinds.ListKind.TheVariants.{Vf, Ee}
-use Rattle.inspection.specs.declared.names.VfName.{VfName}
-use Rattle.inspection.specs.declared.names.EeName.{EeName}
 use Rattle.inspection.specs.Claims.{Claim, Findings}
 use Rattle.inspection.specs.Lists.{Contents}
 use Rattle.inspection.specs.Offers.{lacks_rows}
@@ -310,8 +308,8 @@ module _ {S E : Type 0} (does : S → Event PlanFile → S → Type 0) (fails : 
   unfolding Begins
   start = begun ps fs (λ i. le-ltb (length ps) d.points points i || le-ltb (length fs) d.faces faces i)
 
-  pub ran_in_part : (e : E) (r : Result Ending E) → OffersFile {X = Unit {0}} does fails delivered ps fs true s t h (Err e) m → r ≡ Err e → Ran does fails (AfterStep d ps fs) h r m
-  unfolding OffersFile AfterStep
+  pub ran_in_part : (e : E) (r : Result Ending E) → OffersFile {X = Unit {0}} does fails delivered ps fs true s t h (Err e) m → r ≡ Err e → RunsFromPairs does fails d ps fs h r m
+  unfolding OffersFile RunsFromPairs
   ran_in_part e r offers is =
       ran_short does fails (AfterStep d ps fs) (TellsFile delivered d ps fs (just_opened d) true t) h m e r is
       (λ es call (told, none). (
@@ -328,8 +326,8 @@ module _ {S E : Type 0} (does : S → Event PlanFile → S → Type 0) (fails : 
 
     pub ran : (r : Result Ending E) (k : S)
         → Prints does fails (report_in ps fs t) m r k
-        → IfOk r (λ end. (end ≡ Complete) × Findings delivered t) → Ran does fails (AfterStep d ps fs) h r k
-    unfolding OffersFile AfterStep
+        → IfOk r (λ end. (end ≡ Complete) × Findings delivered t) → RunsFromPairs does fails d ps fs h r k
+    unfolding OffersFile RunsFromPairs
     ran r k print found =
         let a = offers d (just_opened d) start in
         let told = a.good.0 in

@@ -199,7 +199,7 @@ pub record HoldsPlan (p : Plan) (d : Draft) (ps : List Point) (fs : List Face) :
   pub draft : d ≡ draft p
   pub sheet : sheet_in d ps fs ≡ sheet p
 
-unfoldable pub AfterStep : Draft → List Point → List Face
+abbrev pub AfterStep : Draft → List Point → List Face
     → List (Event PlanFile) → Result Ending (Call PlanFile) → Type 0
 AfterStep d ps fs es how =
     NotRead SheetFile es × NotRead Step es
@@ -217,9 +217,16 @@ pub record HoldsSheet (p : Plan) (d : Draft) (ps : List Point) (fs : List Face) 
 abbrev pub after_sheet : Plan → ℕ → List PlanFile
 after_sheet p n = Step ∷ files_after (step_fault p) (replicate n Pairs)
 
-unfoldable pub AfterSheet : Draft → List Point → List Face
+abbrev pub AfterSheet : Draft → List Point → List Face
     → List (Event PlanFile) → Result Ending (Call PlanFile) → Type 0
 AfterSheet d ps fs es how =
     NotRead SheetFile es
     × ((p : Plan) → HoldsSheet p d ps fs → FitsFile Step p.step es → FitsFile Pairs p.pairs es
     → Comes p (after_sheet p) es how)
+
+module _ {S E : Type 0} (does : S → Event PlanFile → S → Type 0) (fails : S → Call PlanFile → E → S → Type 0) (d : Draft) (ps : List Point) (fs : List Face) where
+  unfoldable pub RunsFromPairs : S → Result Ending E → S → Type 0
+  RunsFromPairs s r t = Ran does fails (AfterStep d ps fs) s r t
+
+  unfoldable pub RunsFromStep : S → Result Ending E → S → Type 0
+  RunsFromStep s r t = Ran does fails (AfterSheet d ps fs) s r t

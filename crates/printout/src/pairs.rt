@@ -2,12 +2,12 @@
 ghost use Rattle.std.specs.Prelude.{◌≡◌, ◌<◌, ◌≤◌, ◌%◌, true, IsFalse, length, take, IfOk, IfErr};
 ghost use Rattle.sheet.specs.Sheet.{point_limit, face_limit};
 ghost use Rattle.hosts.specs.Events.{Reading};
-ghost use Rattle.hosts.specs.Works.{Prints, Ran};
+ghost use Rattle.hosts.specs.Works.{Prints};
 ghost use Rattle.inspection.specs.Claims.{Findings};
 ghost use Rattle.inspection.specs.Lists.{contents_of, entries, without_entries};
 ghost use Rattle.inspection.specs.States.{state_of};
 ghost use Rattle.report.specs.Reports.{view_of, report_text};
-ghost use Rattle.printout.specs.Progress.{Begins, OffersFile, PieceCame, Reportable, AfterStep};
+ghost use Rattle.printout.specs.Progress.{Begins, OffersFile, PieceCame, Reportable, RunsFromPairs};
 ghost use Rattle.printout.specs.Walks.{places};
 ghost use Rattle.printout.specs.declared.endings.Ending.TheVariants.{Complete};
 ghost use Rattle.printout.specs.declared.plan_files.PlanFile.TheVariants.{Pairs};
@@ -91,8 +91,8 @@ pub(crate) fn inspect_pairs<H: Host<File = PlanFile>>(
 ) -> Result<Ending, H::Error>
     requires points { draft.points ≤ point_limit }
     requires faces { draft.faces ≤ face_limit }
-    ensures { let comes = AfterStep draft tables.old.points tables.old.faces in
-        Ran H.does H.fails comes host.old result host.new }
+    ensures { RunsFromPairs H.does H.fails draft tables.old.points tables.old.faces
+        host.old result host.new }
 {
     let mut vf_places = [VfName::default(); PLACES];
     let mut ee_places = [EeName::default(); PLACES];

@@ -1,9 +1,9 @@
 // A whole run: the files of a plan are read in their order, each used before the next is read.
 ghost use Rattle.std.specs.Prelude.{◌≡◌, ◌≤◌, IfOk};
-ghost use Rattle.hosts.specs.Works.{Prints, Ran};
+ghost use Rattle.hosts.specs.Works.{Prints};
 ghost use Rattle.sheet.specs.Sheet.{point_limit, face_limit};
 ghost use Rattle.printout.specs.Outcomes.{Inspects};
-ghost use Rattle.printout.specs.Progress.{AfterSheet};
+ghost use Rattle.printout.specs.Progress.{RunsFromStep};
 ghost use Rattle.printout.specs.Printouts.{notice_line};
 ghost use Rattle.printout.specs.declared.endings.Ending.TheVariants.{Faulty};
 
@@ -44,8 +44,8 @@ fn inspect_step<H: Host<File = PlanFile>>(
 ) -> Result<Ending, H::Error>
     requires points { draft.points ≤ point_limit }
     requires faces { draft.faces ≤ face_limit }
-    ensures { let comes = AfterSheet draft tables.old.points tables.old.faces in
-        Ran H.does H.fails comes host.old result host.new }
+    ensures { RunsFromStep H.does H.fails draft tables.old.points tables.old.faces
+        host.old result host.new }
 {
     let n = host.fill(PlanFile::Step, &mut tables.moves)?;
     match lay(&draft, &tables.moves[..n], &mut tables.points) {
