@@ -15,6 +15,8 @@ use Rattle.sheet.specs.declared.drafts.Draft.{Draft}
 use Rattle.sheet.specs.declared.rows.Point.{Point}
 use Rattle.sheet.specs.declared.rows.Face.{Face}
 use Rattle.motion.specs.declared.shapes.Shape.{Shape}
+use Rattle.inspection.specs.declared.names.VfName.{VfName}
+use Rattle.inspection.specs.declared.names.EeName.{EeName}
 use Rattle.inspection.specs.declared.offerings.Offering.{Offering}
 use Rattle.inspection.specs.declared.offerings.Offering.TheVariants.{Faces}
 use Rattle.inspection.specs.PairBytes.{number_of, offers_in}
