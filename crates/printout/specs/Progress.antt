@@ -192,7 +192,7 @@ FitsFile f bytes es = came (same_file f) es ≡ take (asked (same_file f) es) by
 abbrev pub NotRead : PlanFile → List (Event PlanFile) → Type 0
 NotRead f es = All (λ g. same_file f g ≡ false) (files_read es)
 
--- after the step
+-- ---- after the step
 -- these tables hold the sheet of a plan that has no fault
 pub record HoldsPlan (p : Plan) (d : Draft) (ps : List Point) (fs : List Face) : Type 0 where
   pub no_fault : fault p ≡ None
@@ -206,7 +206,7 @@ AfterStep d ps fs es how =
     × ((p : Plan) → HoldsPlan p d ps fs → FitsFile Pairs p.pairs es
     → Comes p (λ n. replicate n Pairs) es how)
 
--- after the sheet
+-- ---- after the sheet
 -- these tables hold the sheet of a plan, at rest
 pub record HoldsSheet (p : Plan) (d : Draft) (ps : List Point) (fs : List Face) : Type 0 where
   pub no_fault : sheet_fault p ≡ None
@@ -225,6 +225,7 @@ AfterSheet d ps fs es how =
     → Comes p (after_sheet p) es how)
 
 module _ {S E : Type 0} (does : S → Event PlanFile → S → Type 0) (fails : S → Call PlanFile → E → S → Type 0) (d : Draft) (ps : List Point) (fs : List Face) where
+  -- from the pairs on, over tables that the step is laid onto, and from the step on
   unfoldable pub RunsFromPairs : S → Result Ending E → S → Type 0
   RunsFromPairs s r t = Ran does fails (AfterStep d ps fs) s r t
 
