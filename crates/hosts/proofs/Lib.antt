@@ -2,7 +2,6 @@ pub mod Continuing
 pub mod Fronts
 pub mod Histories
 pub mod Printing
-pub mod Ran
 pub mod Remembering
 pub mod Showing
 pub mod Writing

@@ -35,7 +35,7 @@ use Rattle.printout.specs.declared.endings.Ending.TheVariants.{Complete, Faulty}
 use Rattle.printout.specs.declared.plan_files.PlanFile.TheVariants.{Pairs, Sheet, Step}
 use Rattle.printout.proofs.Telling.{none_read, told_nothing, never_reads, told_print}
 use Rattle.hosts.specs.Traces.{nothing, next}
-use Rattle.hosts.proofs.Ran.{ran_after, ran_none}
+use Rattle.hosts.proofs.Continuing.{ran_after, ran_none}
 
 -- a file that is read once has given its first bytes
 pub first_bytes : (f : PlanFile) (size : ℕ) (bytes file : List ℕ) (es : List (Event PlanFile)) → same_file f f ≡ true → NotRead f es

@@ -10,7 +10,7 @@ use Rattle.hosts.specs.Events.{Event, Read, Call, Reading, files_read, asked, ca
 use Rattle.hosts.specs.Traces.{nothing, next}
 use Rattle.hosts.specs.Works.{Ran, unread_by, Prints}
 use Rattle.hosts.proofs.Histories.{not_asked, not_came}
-use Rattle.hosts.proofs.Ran.{ran_after, ran_short}
+use Rattle.hosts.proofs.Continuing.{ran_after, ran_short}
 use Rattle.sheet.specs.declared.drafts.Draft.{Draft}
 use Rattle.sheet.specs.declared.rows.Point.{Point}
 use Rattle.sheet.specs.declared.rows.Face.{Face}

@@ -29,7 +29,7 @@ use Rattle.inspection.specs.States.{State}
 use Rattle.inspection.specs.Tests.{Naming, vf_naming, ee_naming}
 use Rattle.hosts.specs.Events.{Event, Call}
 use Rattle.hosts.specs.Traces.{nothing}
-use Rattle.hosts.proofs.Ran.{ran_after, ran_short}
+use Rattle.hosts.proofs.Continuing.{ran_after, ran_short}
 use Rattle.printout.specs.Printouts.{notice_line}
 use Rattle.printout.specs.Progress.{Listed, found_in, Made, Told, nothing_told, ◌⊕◌, told_of, refusal_told, Tells, Refuses, TellsPairs, Offers}
 use Rattle.printout.specs.Walks.{Walk, places, pair_bytes, is_full, refusal, found_after, vf_after, ee_after, sorted_in, offered, walked, refusal_lines, refused_pairs}

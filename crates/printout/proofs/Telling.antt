@@ -7,7 +7,7 @@ use Rattle.hosts.specs.Events.{Event, Stored, Call, Reading, Storing, files_read
 use Rattle.hosts.specs.Traces.{nothing, next, CutOff}
 use Rattle.hosts.specs.Works.{Ran, unread_by, Stopped, IsPrintedInPart, Prints}
 use Rattle.hosts.proofs.Histories.{prints_store_nothing, prints_read_nothing}
-use Rattle.hosts.proofs.Ran.{ran_after, ran_short}
+use Rattle.hosts.proofs.Continuing.{ran_after, ran_short}
 use Rattle.sheet.specs.declared.notices.Notice.{Notice}
 use Rattle.inspection.specs.declared.offerings.Offering.{Offering}
 use Rattle.printout.specs.Outcomes.{same_file}
