@@ -22,16 +22,16 @@ use Rattle.inspection.specs.Runs.{depth_checks}
 abbrev coords : ℤ → ℤ → ℤ → Coords
 coords x y z = record { x = x; y = y; z = z }
 
--- a place with no coordinate below zero
-abbrev place : ℕ → ℕ → ℕ → Coords
-place x y z = coords (pos x) (pos y) (pos z)
+-- coordinates, none of them below zero
+abbrev coords_of : ℕ → ℕ → ℕ → Coords
+coords_of x y z = coords (pos x) (pos y) (pos z)
 
 abbrev resting : Coords → Point
 resting p = record { start = p; end = p }
 
 -- the point (1,1,1), which goes to (1,1,z)
 abbrev pub falling_to : ℤ → Point
-falling_to z = record { start = place 1 1 1; end = coords (pos 1) (pos 1) z }
+falling_to z = record { start = coords_of 1 1 1; end = coords (pos 1) (pos 1) z }
 
 -- to (1,1,−1), through the face below it; and to (1,1,0), onto that face
 abbrev pub falling : Point
@@ -44,7 +44,7 @@ falling_onto = falling_to (pos 0)
 abbrev pub sheet_with : Point → Sheet
 sheet_with p =
     sheet_of
-    (resting (place 0 0 0) ∷ resting (place 4 0 0) ∷ resting (place 0 4 0) ∷ p ∷ [])
+    (resting (coords_of 0 0 0) ∷ resting (coords_of 4 0 0) ∷ resting (coords_of 0 4 0) ∷ p ∷ [])
     (record { a = 0; b = 1; c = 2 } ∷ [])
 
 -- the point 3 against the face 0
@@ -60,7 +60,7 @@ depths = 0 ∷ 1 ∷ 2 ∷ 3 ∷ 4 ∷ 5 ∷ 6 ∷ []
 
 -- the fault of a record, laid onto one point that rests at (1,1,1)
 abbrev pub fault_laid : List ℕ → Option Notice
-fault_laid bytes = first_fit (lay_checks 1 (resting (place 1 1 1) ∷ []) bytes)
+fault_laid bytes = first_fit (lay_checks 1 (resting (coords_of 1 1 1) ∷ []) bytes)
 
 -- the fault of a text, read into the largest tables
 abbrev pub fault_read : List ℕ → Option Notice
@@ -105,7 +105,7 @@ pub record Worked : Type 0 where
   pub field_missing : fault_read (codes "v 1 2") ≡ fault 1 layer.Field 1 3
   pub named_before : fault_read (codes "v 0 0 0\nv 0 0 0\nf 1 1 2") ≡ fault 5 layer.Line 3 2
   pub greatest_passes : fault_read (codes "v 4096 0 0") ≡ None
-  pub greatest_read : points_read (codes "v 4096 0 0") ≡ resting (place 4096 0 0) ∷ []
+  pub greatest_read : points_read (codes "v 4096 0 0") ≡ resting (coords_of 4096 0 0) ∷ []
   pub past_greatest : fault_read (codes "v 4097 0 0") ≡ fault 3 layer.Line 1 1
   -- depths
   pub deepest_passes : fault_opened 6 ≡ None

@@ -24,8 +24,8 @@ pub struct About {
 /// printed, or it was told what is wrong.
 pub fn given(rt: &HostRuntime, about: &About) -> Result<Given, u8>
     ensures status { IfErr result (λ status. status ≤ 1) }
-    ensures count { IfOk result (λ g. about.now.least ≤ vec_len g.places) }
-    ensures few { IfOk result (λ g. vec_len g.places ≤ about.now.most) }
+    ensures count { IfOk result (λ g. about.now.least ≤ vec_len g.operands) }
+    ensures few { IfOk result (λ g. vec_len g.operands ≤ about.now.most) }
 {
     let words = match env::args(rt) {
         Ok(words) => words,
@@ -33,7 +33,7 @@ pub fn given(rt: &HostRuntime, about: &About) -> Result<Given, u8>
     };
     match read_words(rt.alloc(), words, about.has_refused) {
         Ok(Asked::Work(given)) => {
-            let count = given.places.len();
+            let count = given.operands.len();
             if count < about.least || count > about.most {
                 return Err(told_usage(rt, about));
             }

@@ -8,7 +8,7 @@ use std::env::Args;
 #[derive(Drop)]
 pub struct Given {
     /// The words that are no options.
-    pub places: Vec<String>,
+    pub operands: Vec<String>,
     /// The file after the option `--refused`.
     pub refused: Option<String>,
 }
@@ -32,7 +32,7 @@ pub(crate) fn read_words(
     has_refused: bool,
 ) -> Result<Asked, AllocError> {
     let mut given = Given {
-        places: Vec::new(alloc),
+        operands: Vec::new(alloc),
         refused: None,
     };
     let mut options_end = false;
@@ -44,7 +44,7 @@ pub(crate) fn read_words(
             continue;
         }
         if options_end || !is_option(word.as_str()) {
-            given.places.push(word)?;
+            given.operands.push(word)?;
             continue;
         }
         match word.as_str() {

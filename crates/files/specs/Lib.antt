@@ -2,4 +2,4 @@ pub mod Deeds
 pub mod Failures
 pub mod Lasts
 pub mod Machines
-pub mod Placed
+pub mod OnDisk

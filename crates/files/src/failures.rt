@@ -6,7 +6,7 @@ use std::io;
 
 /// Where a call failed.
 #[derive(Clone, Copy, Debug, PartialEq, Eq)]
-pub enum Place<F> {
+pub enum Site<F> {
     /// A file that is read.
     File(F),
     /// Standard output.
@@ -20,20 +20,20 @@ pub enum Place<F> {
 /// A call that failed, and why.
 #[derive(Clone, Copy, Debug)]
 pub struct Failure<F> {
-    pub place: Place<F>,
+    pub site: Site<F>,
     pub reason: io::Error,
 }
 
-/// What was done at a place, or the failure there.
-pub(crate) fn at<F, T>(place: Place<F>, done: io::Result<T>) -> Result<T, Failure<F>>
+/// What was done at a site, or the failure there.
+pub(crate) fn at<F, T>(site: Site<F>, done: io::Result<T>) -> Result<T, Failure<F>>
 where
     F: Drop,
     ensures { MatchResult done (λ x. result ≡ Ok x)
-        (λ e. result ≡ Err (record { place = place; reason = e })) }
+        (λ e. result ≡ Err (record { site = site; reason = e })) }
 {
     match done {
         Ok(x) => Ok(x),
-        Err(reason) => Err(Failure { place, reason }),
+        Err(reason) => Err(Failure { site, reason }),
     }
 }
 

@@ -6,14 +6,14 @@ mod disks;
 mod failures;
 mod lasts;
 mod machines;
-mod placed;
+mod on_disk;
 mod printing;
 mod progress;
 mod reading;
 
 pub use disks::Disk;
-pub use failures::{Failure, Place, tell};
+pub use failures::{Failure, Site, tell};
 pub use lasts::Last;
 pub use machines::Machine;
-pub use placed::{Placed, Places, place_name};
+pub use on_disk::{FilePaths, OnDisk, site_name};
 pub use progress::Watched;

@@ -4,7 +4,7 @@ ghost use Rattle.std.specs.Prelude.{◌≡◌, ◌+◌, ◌-◌, ◌^◌, ◌≤
 
 use crate::beside::Beside;
 use crate::disks::Disk;
-use crate::failures::{Failure, Place, at};
+use crate::failures::{Failure, Site, at};
 use crate::printing::Held;
 use crate::progress::{Progress, Watched};
 use crate::reading::fill_from;
@@ -42,11 +42,8 @@ impl<F: Copy + PartialEq> Machine<F> {
     pub fn new(rt: HostRuntime, watched: Option<Watched<F>>) -> Result<Machine<F>, Failure<F>>
         ensures { IfOk result (λ machine. left_to_read machine ≡ 2 ^ 64 - 1) }
     {
-        at(Place::Output, rt.write_some(b""))?;
-        let held = at(
-            Place::Memory,
-            Held::new(rt.alloc()).map_err(io::Error::from),
-        )?;
+        at(Site::Output, rt.write_some(b""))?;
+        let held = at(Site::Memory, Held::new(rt.alloc()).map_err(io::Error::from))?;
         Ok(Machine {
             rt,
             reading: None,
@@ -153,7 +150,7 @@ impl<F: Copy + PartialEq> Disk<F> for Machine<F> {
 
     fn fill(&mut self, file: F, path: &str, buf: &mut [u8]) -> Result<usize, Failure<F>> {
         let done = self.read_on(file, path, buf);
-        at(Place::File(file), done)
+        at(Site::File(file), done)
     }
 
     fn print(&mut self, bytes: &[u8]) -> Result<(), Failure<F>> {
@@ -162,20 +159,20 @@ impl<F: Copy + PartialEq> Disk<F> for Machine<F> {
         }
         self.progress.wipe();
         let done = self.held.print(&mut io::writer(&self.rt), bytes);
-        at(Place::Output, done)
+        at(Site::Output, done)
     }
 
     fn flush(&mut self) -> Result<(), Failure<F>> {
         self.progress.wipe();
         let done = self.held.flush(&mut io::writer(&self.rt));
-        at(Place::Output, done)
+        at(Site::Output, done)
     }
 
     fn store(&mut self, path: &str, bytes: &[u8]) -> Result<(), Failure<F>> {
-        at(Place::Target, self.store_beside(path, bytes))
+        at(Site::Target, self.store_beside(path, bytes))
     }
 
     fn keep(&mut self, path: &str) -> Result<(), Failure<F>> {
-        at(Place::Target, self.keep_beside(path))
+        at(Site::Target, self.keep_beside(path))
     }
 }

@@ -1,5 +1,5 @@
 -- Writes one after another, and the last of them cut off.
-use Rattle.std.proofs.Common.{◌≡◌, List, [], ◌∷◌, ◌++◌, ℕ, Ok, Err, Result, refl, sym, ap, subst}
+use Rattle.std.proofs.Common.{◌≡◌, List, [], ◌∷◌, ◌++◌, ℕ, Ok, Err, Result, refl, ap}
 use Rattle.hosts.specs.Events.{Event, Read, Printed, Stored, Call, Printing, Storing, files_read, printed, stored}
 use Rattle.hosts.specs.Traces.{nothing, next, CutOff}
 use Rattle.hosts.specs.Writing.{BeganTo, at_none, in_a_print, in_a_store, after_print, after_store, IsWrittenInPart, Writes, writes}

@@ -1,4 +1,4 @@
-// Bytes copied from one place to another.
+// Bytes copied from one buffer into another.
 ghost use Rattle.std.specs.Prelude.{◌≡◌, length, take, drop, min};
 ghost use Rattle.hosts.specs.Pages.{onto_page};
 

@@ -3,8 +3,8 @@ ghost use Rattle.std.specs.Prelude.{ℕ, ◌+◌, ◌≤◌, length, take, IfOk,
 ghost use Rattle.hosts.specs.Events.{Event, Read, Printed, Stored, Call, Reading, Printing, Storing};
 ghost use Rattle.hosts.specs.Traces.{CutOff};
 
-/// What a program's work is done over: files that are read, a place to print to and one to store
-/// in. It is all that a work can reach, so all that it does is a list of these calls, and only
+/// What a program's work is done over: files that are read, an output that is printed to and one
+/// that is stored in. It is all that a work can reach, so all that it does is a list of these calls, and only
 /// they can stop it.
 pub trait Host {
     /// The files that can be read.

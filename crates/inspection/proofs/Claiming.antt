@@ -9,7 +9,7 @@ use Rattle.motion.specs.Depths.{struck_at, Struck}
 use Rattle.motion.proofs.Subintervals.{valid-first, valid-last}
 use Rattle.motion.proofs.DepthLaws.{struck, struck-whole, struck-step}
 use Rattle.inspection.specs.declared.classes.Tally.{Tally}
-use Rattle.inspection.specs.declared.kinds.ListKind.TheVariants.{Vf, Ee}
+use Rattle.motion.specs.declared.shapes.Kind.TheVariants.{Vf, Ee}
 use Rattle.inspection.specs.Tallies.{tally_in}
 use Rattle.inspection.specs.Offerings.{SameOffering}
 use Rattle.inspection.specs.Sheets.{Sheet}

@@ -1,4 +1,4 @@
--- What a list holds of a history's tests, up to a place in it.
+-- What a list holds of a history's tests, up to one of them.
 use Rattle.std.proofs.Common.{◌≡◌, ◌⊎◌, ℕ, zero, suc, ◌<◌, Bool, true, false, ◌||◌, cond, fold, List, [], ◌∷◌, ◌++◌, All, AllPairs, Some, get_or, length, sym, refl, ap, ◌∙◌, subst, subst₂, inl, inr, ⊎_elim, arith}
 use Rattle.std.proofs.Math.Bool.{or-false}
 use Rattle.std.specs.Cmp.{IsEquivalence}
@@ -13,22 +13,22 @@ use Rattle.inspection.specs.declared.classes.Class.TheVariants.{Kept, Struck, Sh
 use Rattle.inspection.specs.Sheets.{Sheet}
 use Rattle.inspection.specs.Tests.{Naming}
 use Rattle.inspection.specs.Lists.{has}
-use Rattle.inspection.specs.Classes.{Rules, rules_at, class_of, entries_with, entries_after}
+use Rattle.inspection.specs.Classes.{Rules, rules_at, class_of, entries_after_one, entries_after}
 use Rattle.inspection.specs.Offers.{entries_by}
 use Rattle.inspection.specs.Runs.{Accepted}
 use Rattle.inspection.specs.Claims.{PassedAt, PassedBefore, Before}
 use Rattle.inspection.proofs.NamingLaws.{NamingLaws}
 
--- ---- what stands at a place of a list, and what a list has
+-- ---- what stands at a number of a list, and what a list has
 module _ {A : Type 0} where
   abbrev pub At : List A → ℕ → A → Type 0
   At xs i x = slice_get xs i ≡ Some x
 
-  -- what holds of all holds at each place
+  -- what holds of all holds at each number
   pub at-all : (P : A → Type 0) (xs : List A) (i : ℕ) (x : A) → All P xs → At xs i x → P x
   at-all P xs i x all e = subst P (get_or_from_slice_get xs i x x e) (all i x (slice_get_within xs i x e))
 
-  -- what each step of a fold carries on from its place to the next
+  -- what each turn of a fold carries on to the next
   pub folded : {B : Type 0} (f : B → A → B) (P : ℕ → B → Type 0) (xs : List A) → ((i : ℕ) (x : A) (b : B) → At xs i x → P i b → P (suc i) (f b x)) → (b : B) → P zero b
       → P (length xs) (fold f b xs)
   folded f P [] step b p = p
@@ -43,8 +43,8 @@ module _ {E : Type 0} (same : E → E → Bool) where
   pub has-same : IsEquivalence same → (es : List E) (d e : E) → same d e ≡ true → has same d es ≡ has same e es
   has-same laws es d e s = λ i. list_any (λ x. laws.congr d e x s i) es
 
--- ---- the order of places
--- before the next place: before this one, or at it
+-- ---- the order of numbers
+-- before the next number: before this one, or at it
 last : (i j a k : ℕ) → Before i j a (suc k) → Before i j a k ⊎ ((i ≡ a) × (j ≡ k))
 last i j a k b = grind arith
 
@@ -54,11 +54,11 @@ later i j a k b = grind arith
 next_offer : (i j a k : ℕ) → Before i j a k → Before i j (suc a) 0
 next_offer i j a k b = grind arith
 
--- before the next offer: before a place of this one, or among its places from there on
+-- before the next offer: before a number of this one, or among its numbers from there on
 last_offer : (i j a k : ℕ) → Before i j (suc a) 0 → (i ≡ a → j < k) → Before i j a k
 last_offer i j a k b h = grind arith
 
--- what is before a place is before all that is not
+-- what is before a number is before all that is not
 apart : (p q i j a k : ℕ) → Before p q a k → (Before i j a k → ⊥) → Before p q i j
 apart p q i j a k b n = grind arith
 
@@ -76,7 +76,7 @@ module _ {E : Type 0} (n : Naming E) (set : Shape → Bool) (sheet : Sheet) wher
     passed-as e x i j s w =
         record { offer = w.offer; test = w.test; accepted = w.accepted; holds = w.holds; same = named.equivalence.congr e x w.test s ∙ w.same; unshared = w.unshared; passed = w.passed }
 
-    -- of the tests before place k of the offer i
+    -- of the tests before number k of the offer i
     pub record Upto (i k : ℕ) (es : List E) : Type 0 where
       pub listed : (e : E) → has n.same e es ≡ true → (p : ℕ) × ((q : ℕ) × (Passed e p q × Before p q i k))
       pub passed : (e : E) (p q : ℕ) → Passed e p q → Before p q i k → has n.same e es ≡ true
@@ -119,7 +119,7 @@ module _ {E : Type 0} (n : Naming E) (set : Shape → Bool) (sheet : Sheet) wher
       ts = n.tests sheet o.what
 
       -- one of them, by its class
-      one : (k : ℕ) (x : E) (es : List E) → At (n.tests sheet o.what) k x → Upto i k es → Upto i (suc k) (entries_with (class_of by es x) es x)
+      one : (k : ℕ) (x : E) (es : List E) → At (n.tests sheet o.what) k x → Upto i k es → Upto i (suc k) (entries_after_one (class_of by es x) es x)
       one k x es p u = go (n.shared sheet x) (struck_at set o.depth (n.shape sheet x)) (has n.same x es) refl refl refl
         where
           -- what is passed here is this test
@@ -130,7 +130,7 @@ module _ {E : Type 0} (n : Naming E) (set : Shape → Bool) (sheet : Sheet) wher
               (cc, cc, cc)
 
           go : (a b c : Bool) → n.shared sheet x ≡ a → struck_at set o.depth (n.shape sheet x) ≡ b → has n.same x es ≡ c
-              → Upto i (suc k) (entries_with (cond a Shared (cond b Struck (cond c Repeated Kept))) es x)
+              → Upto i (suc k) (entries_after_one (cond a Shared (cond b Struck (cond c Repeated Kept))) es x)
           go true b c d e f = skip i k es u (λ y w. absurd (both_ways (n.shared sheet x) (is y w).1 d))
           go false true c d e f = skip i k es u (λ y w. absurd (both_ways (struck_at set o.depth (n.shape sheet x)) (is y w).2 e))
           go false false true d e f = skip i k es u (λ y w. has-same n.same named.equivalence es y x (is y w).0 ∙ f)
@@ -140,7 +140,7 @@ module _ {E : Type 0} (n : Naming E) (set : Shape → Bool) (sheet : Sheet) wher
       -- all of them
       offer : (es : List E) → Upto i 0 es → Upto (suc i) 0 (entries_after by es ts)
       offer es u =
-          let all : Upto i (length ts) (entries_after by es ts) = folded (λ old e. entries_with (class_of by old e) old e) (Upto i) ts one es u in
+          let all : Upto i (length ts) (entries_after by es ts) = folded (λ old e. entries_after_one (class_of by old e) old e) (Upto i) ts one es u in
           record {
             listed = λ e t. let (p, (q, (w, b))) = all.listed e t in (p, (q, (w, next_offer p q i (length ts) b)));
             passed = λ e p q w b. all.passed e p q w (last_offer p q i (length ts) b (within e p q w));

@@ -7,7 +7,7 @@ use Rattle.inspection.specs.declared.classes.Class.{Class}
 use Rattle.inspection.specs.declared.classes.Class.TheVariants.{Kept, Struck, Shared, Repeated}
 use Rattle.inspection.specs.declared.names.VfName.{VfName}
 use Rattle.inspection.specs.declared.names.EeName.{EeName}
-use Rattle.inspection.specs.Classes.{Rules, class_of, entries_with, entries_after}
+use Rattle.inspection.specs.Classes.{Rules, class_of, entries_after_one, entries_after}
 use Rattle.inspection.specs.Names.{edge_of, ee_name_of}
 use Rattle.inspection.specs.Offerings.{Faces}
 use Rattle.inspection.specs.Sheets.{Sheet, face_at}
@@ -15,7 +15,7 @@ use Rattle.inspection.specs.Tests.{corners_inside, vf_inside, ee_inside, vf_test
 
 -- what holds of each entry and of each test holds of each entry after them
 module _ {E : Type 0} (r : Rules E) (P : E → Type 0) where
-  after_one : (k : Class) (es : List E) (e : E) → All P es → P e → All P (entries_with k es e)
+  after_one : (k : Class) (es : List E) (e : E) → All P es → P e → All P (entries_after_one k es e)
   after_one Kept es e all p = All-push P es e all p
   after_one Struck es e all p = all
   after_one Shared es e all p = all
@@ -24,7 +24,7 @@ module _ {E : Type 0} (r : Rules E) (P : E → Type 0) where
   pub after_all : (es tests : List E) → All P es → All P tests → All P (entries_after r es tests)
   after_all es [] all new = all
   after_all es (e ∷ tests) all new =
-      after_all (entries_with (class_of r es e) es e) tests (after_one (class_of r es e) es e all (All-head P e tests new)) (All-tail P e tests new)
+      after_all (entries_after_one (class_of r es e) es e) tests (after_one (class_of r es e) es e all (All-head P e tests new)) (All-tail P e tests new)
 
 -- ---- the tests of two faces of the sheet
 module _ (s : Sheet) where

@@ -15,12 +15,12 @@ use Rattle.motion.specs.Depths.{struck_at}
 use Rattle.inspection.specs.declared.names.VfName.{VfName}
 use Rattle.inspection.specs.declared.names.EeName.{EeName}
 use Rattle.inspection.specs.declared.classes.Tally.{Tally}
-use Rattle.inspection.specs.declared.kinds.ListKind.TheVariants.{Vf, Ee}
+use Rattle.motion.specs.declared.shapes.Kind.TheVariants.{Vf, Ee}
 use Rattle.inspection.specs.Tallies.{no_tests, total, with_one_more, sum_of, tally_in}
 use Rattle.inspection.specs.Offerings.{Offering, Faces}
 use Rattle.inspection.specs.Sheets.{Sheet, sheet_in, moving_of, nowhere, point_at}
 use Rattle.inspection.specs.Tests.{Naming, vf_naming, ee_naming}
-use Rattle.inspection.specs.Classes.{Rules, rules_at, class_of, entries_with, entries_after, tally_after}
+use Rattle.inspection.specs.Classes.{Rules, rules_at, class_of, entries_after_one, entries_after, tally_after}
 use Rattle.inspection.specs.States.{Core, State}
 use Rattle.inspection.specs.Offers.{entries_by, tally_by, state_after, offer_checks}
 use Rattle.inspection.specs.Runs.{depth_checks, Accepted, Brings, Run}
@@ -38,11 +38,11 @@ module _ {E : Type 0} (j : Rules E) where
   tallied x p one es [] t = omega arith
   tallied x p one es (e ∷ ts) t =
       let c = class_of j es e in
-      omega (arith, tallied x p one (entries_with c es e) ts (with_one_more c t), one es e t, sum_by-cons (λ e. cond (p e) 1 0) e ts)
+      omega (arith, tallied x p one (entries_after_one c es e) ts (with_one_more c t), one es e t, sum_by-cons (λ e. cond (p e) 1 0) e ts)
 
   all_kept : (es ts : List E) (t : Tally) → (tally_after j es ts t).kept + length es ≡ t.kept + length (entries_after j es ts)
   all_kept es [] t = refl
-  all_kept es (e ∷ ts) t = let c = class_of j es e in grind (arith, all_kept (entries_with c es e) ts (with_one_more c t), length-append es (e ∷ []))
+  all_kept es (e ∷ ts) t = let c = class_of j es e in grind (arith, all_kept (entries_after_one c es e) ts (with_one_more c t), length-append es (e ∷ []))
 
 -- what is listed of them, and how they are counted
 pub record KindSoFar {E : Type 0} (n : Naming E) (each : ℕ) (set : Shape → Bool) (sheet : Sheet) (h : List Accepted) (es : List E) (t : Tally) : Type 0 where

@@ -10,19 +10,19 @@ use Rattle.inspection.specs.declared.faults.OfferFault.{OfferFault}
 use Rattle.inspection.specs.declared.requests.Request.{Request}
 use Rattle.inspection.specs.declared.requests.Request.TheVariants as request
 use Rattle.inspection.specs.declared.requests.Answer.{Answer}
-use Rattle.inspection.specs.declared.kinds.ListKind.TheVariants.{Vf, Ee}
+use Rattle.motion.specs.declared.shapes.Kind.TheVariants.{Vf, Ee}
 use Rattle.inspection.specs.Offerings.{Offering}
 use Rattle.inspection.specs.Sheets.{sheet_in}
 use Rattle.inspection.specs.States.{State}
-use Rattle.inspection.specs.Offers.{OfferStep}
-use Rattle.inspection.specs.Runs.{Accepted, history_after, Run, depth_set, offered, asked, DepthStep}
-use Rattle.inspection.specs.Requests.{RequestStep, Steps, history_from}
+use Rattle.inspection.specs.Offers.{OfferCall}
+use Rattle.inspection.specs.Runs.{Accepted, history_after, Run, depth_set, offered, asked, DepthCall}
+use Rattle.inspection.specs.Requests.{RequestCall, Calls, history_from}
 
 module _ (set : Shape → Bool) (ps : List Point) (fs : List Face) where
-  depth-after : (s t : State) (k : ℕ) (r : Result (Unit {0}) OpeningFault) → DepthStep k s.core r t.core → t.core.depth ≡ cond (is_ok r) k s.core.depth
+  depth-after : (s t : State) (k : ℕ) (r : Result (Unit {0}) OpeningFault) → DepthCall k s.core r t.core → t.core.depth ≡ cond (is_ok r) k s.core.depth
   depth-after s t k r a = grind (arith, a.core)
 
-  offer-depth : (o : Offering) (s t : State) (r : Result (Unit {0}) OfferFault) → OfferStep set ps fs o s r t → t.core.depth ≡ s.core.depth
+  offer-depth : (o : Offering) (s t : State) (r : Result (Unit {0}) OfferFault) → OfferCall set ps fs o s r t → t.core.depth ≡ s.core.depth
   offer-depth o s t r a = grind (arith, a.state)
 
   -- ---- a run goes on by what is worked
@@ -30,7 +30,7 @@ module _ (set : Shape → Bool) (ps : List Point) (fs : List Face) where
     abbrev Runs : List Accepted → State → Type 0
     Runs = Run set d (sheet_in d ps fs)
 
-    pub worked-runs : (h : List Accepted) (qs : List Request) (rs : List Answer) (s t : State) → Runs h s → Steps set ps fs qs rs s t → Runs (history_from h s.core.depth qs rs) t
+    pub worked-runs : (h : List Accepted) (qs : List Request) (rs : List Answer) (s t : State) → Runs h s → Calls set ps fs qs rs s t → Runs (history_from h s.core.depth qs rs) t
     worked-runs h [] [] s t r w = asked t r w
     worked-runs h [] (a ∷ rs) s t r w = absurd w
     worked-runs h (q ∷ qs) [] s t r w = absurd w
@@ -48,8 +48,8 @@ module _ (set : Shape → Bool) (ps : List Point) (fs : List Face) where
 
   -- ---- one request more, worked at the end
   pub worked-more : (qs : List Request) (rs : List Answer) (q : Request) (a : Answer) (s t u : State)
-      → Steps set ps fs qs rs s t → RequestStep set ps fs q a t u → Steps set ps fs (qs ++ (q ∷ [])) (rs ++ (a ∷ [])) s u
-  worked-more [] [] q a s t u w b = (u, (subst (λ (x : State). RequestStep set ps fs q a x u) w b, refl))
+      → Calls set ps fs qs rs s t → RequestCall set ps fs q a t u → Calls set ps fs (qs ++ (q ∷ [])) (rs ++ (a ∷ [])) s u
+  worked-more [] [] q a s t u w b = (u, (subst (λ (x : State). RequestCall set ps fs q a x u) w b, refl))
   worked-more [] (x ∷ rs) q a s t u w b = absurd w
   worked-more (y ∷ qs) [] q a s t u w b = absurd w
   worked-more (y ∷ qs) (x ∷ rs) q a s t u w b = (w.0, (w.1.0, worked-more qs rs q a w.0 t u w.1.1 b))
@@ -57,8 +57,8 @@ module _ (set : Shape → Bool) (ps : List Point) (fs : List Face) where
 -- ---- as a loop over both lists goes on
 module _ (set : Shape → Bool) (ps : List Point) (fs : List Face) where
   pub worked_on : (qs : List Request) (rs : List Answer) (i : ℕ) (d : Request) (a : Answer) (s t u : State) → i < length qs → i < length rs
-      → Steps set ps fs (take i qs) (take i rs) s t → RequestStep set ps fs (get_or qs i d) a t u
-      → Steps set ps fs (take (i + 1) qs) (take (i + 1) (list_set rs i a)) s u
+      → Calls set ps fs (take i qs) (take i rs) s t → RequestCall set ps fs (get_or qs i d) a t u
+      → Calls set ps fs (take (i + 1) qs) (take (i + 1) (list_set rs i a)) s u
   worked_on qs rs i d a s t u h k w b =
       rw (take_more qs i d h, take_more_set rs i a k) (worked-more set ps fs (take i qs) (take i rs) (get_or qs i d) a s t u w b)
 

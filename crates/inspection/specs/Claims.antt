@@ -7,7 +7,7 @@ use Rattle.motion.specs.declared.shapes.Shape.{Shape}
 use Rattle.motion.specs.Laws.{Valid, Apart}
 use Rattle.motion.specs.Depths.{struck_at}
 use Rattle.inspection.specs.declared.classes.Tally.{Tally}
-use Rattle.inspection.specs.declared.kinds.ListKind.TheVariants.{Vf, Ee}
+use Rattle.motion.specs.declared.shapes.Kind.TheVariants.{Vf, Ee}
 use Rattle.inspection.specs.declared.names.VfName.{VfName}
 use Rattle.inspection.specs.declared.names.EeName.{EeName}
 use Rattle.inspection.specs.Tallies.{total, tally_in}
@@ -29,7 +29,7 @@ how_many n sheet history p = sum_by (λ o. count_by (p o) (n.tests sheet o.what)
 -- of the tests of one kind, by a filter's set over a sheet, and these accepted offers
 module _
     {E : Type 0} (n : Naming E) (set : Shape → Bool) (sheet : Sheet) (history : List Accepted) where
-  -- the accepted offer with number i has the test e at place j; it is not shared
+  -- the accepted offer with number i has the test e as number j; it is not shared
   -- and the offer passed it at the depth then set
   pub record PassedAt (e : E) (i j : ℕ) : Type 0 where
     pub offer : Accepted

@@ -16,17 +16,21 @@ pub record Rules (E : Type 0) : Type 0 where
   pub struck : E → Bool
   pub same : E → E → Bool
 
--- over a sheet, by a filter's set at depth d
+-- over a sheet, by a filter's set at depth k
 abbrev pub rules_at : {E : Type 0} → Naming E → (Shape → Bool) → ℕ → Sheet → Rules E
-rules_at n set d s =
-    record { shared = n.shared s; struck = λ e. struck_at set d (n.shape s e); same = n.same }
+rules_at n set k sheet =
+    record {
+      shared = n.shared sheet;
+      struck = λ e. struck_at set k (n.shape sheet e);
+      same = n.same;
+    }
 
 -- the entries with a test of this class: a kept one is added at the end
-abbrev pub entries_with : {E : Type 0} → Class → List E → E → List E
-entries_with Kept es e = es ++ (e ∷ [])
-entries_with Struck es e = es
-entries_with Shared es e = es
-entries_with Repeated es e = es
+abbrev pub entries_after_one : {E : Type 0} → Class → List E → E → List E
+entries_after_one Kept es e = es ++ (e ∷ [])
+entries_after_one Struck es e = es
+entries_after_one Shared es e = es
+entries_after_one Repeated es e = es
 
 module _ {E : Type 0} (r : Rules E) where
   -- the first rule that fits: shared; struck; repeated, if it is listed; else kept
@@ -39,10 +43,10 @@ module _ {E : Type 0} (r : Rules E) where
 
   -- the entries after tests, each in its turn
   abbrev pub entries_after : List E → List E → List E
-  entries_after es tests = fold (λ old e. entries_with (class_of old e) old e) es tests
+  entries_after es tests = fold (λ old e. entries_after_one (class_of old e) old e) es tests
 
   -- the tally after them
   abbrev pub tally_after : List E → List E → Tally → Tally
   tally_after es [] t = t
   tally_after es (e ∷ rest) t =
-      let k = class_of es e in tally_after (entries_with k es e) rest (with_one_more k t)
+      let k = class_of es e in tally_after (entries_after_one k es e) rest (with_one_more k t)

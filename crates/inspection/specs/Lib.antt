@@ -13,5 +13,4 @@ pub mod Offers
 pub mod Windows
 pub mod Runs
 pub mod Requests
-pub mod PairBytes
 pub mod Claims

@@ -11,15 +11,15 @@ pub record Contents (E : Type 0) : Type 0 where
 
 abbrev pub contents_of : {E : Type 0} → Listing E → Contents E
 contents_of l =
-    let table = l.places.now in
-    record { entries = take l.len table; rest = drop l.len table; lender = l.places.ghost_name }
+    let table = l.table.now in
+    record { entries = take l.len table; rest = drop l.len table; lender = l.table.ghost_name }
 
 abbrev pub entries : {E : Type 0} → Listing E → List E
 entries l = (contents_of l).entries
 
 -- grown to these entries
-abbrev pub with_entries : {E : Type 0} → List E → Contents E → Contents E
-with_entries es h =
+abbrev pub grown_to : {E : Type 0} → List E → Contents E → Contents E
+grown_to es h =
     record { entries = es; rest = drop (length es - length h.entries) h.rest; lender = h.lender }
 
 -- the same table, and no entry

@@ -1,6 +1,6 @@
 -- What a run of an inspection is: from an opening on, any calls, refused ones included.
 use Rattle.std.specs.Prelude.{◌≡◌, ℕ, ◌≤◌, Bool, IsFalse, if◌then◌else◌, List, [], ◌∷◌, ◌++◌, Result, is_ok, Ok, Err, nat_lt}
-use Rattle.sheet.specs.Checks.{Check, first_fit, fault_notice}
+use Rattle.sheet.specs.Checks.{Check, first_fit, fault_notice, check}
 use Rattle.sheet.specs.declared.notices.Layer.TheVariants.{Opening}
 use Rattle.sheet.specs.declared.rows.Point.{Point}
 use Rattle.sheet.specs.declared.rows.Face.{Face}
@@ -8,15 +8,15 @@ use Rattle.sheet.specs.declared.drafts.Draft.{Draft}
 use Rattle.motion.specs.declared.shapes.Shape.{Shape}
 use Rattle.inspection.specs.declared.faults.OpeningFault.{OpeningFault}
 use Rattle.inspection.specs.declared.faults.OfferFault.{OfferFault}
-use Rattle.inspection.specs.Faults.{check, notice_of_opening}
+use Rattle.inspection.specs.Faults.{notice_of_opening}
 use Rattle.inspection.specs.Offerings.{Offering}
 use Rattle.inspection.specs.Sheets.{Sheet, sheet_in}
 use Rattle.inspection.specs.States.{Core, State, core_at_start, with_depth}
-use Rattle.inspection.specs.Offers.{lacks_rows, OfferStep}
+use Rattle.inspection.specs.Offers.{lacks_rows, OfferCall}
 
 -- ---- openings, and depths set later
 abbrev pub depth_checks : ℕ → List Check
-depth_checks k = check (nat_lt 6 k) 15 Opening k ∷ []
+depth_checks k = check (nat_lt 6 k) 15 Opening k 0 ∷ []
 
 -- of this draft, at a depth that is not refused, with emptied lists
 pub record Opened (d : Draft) (s : State) : Type 0 where
@@ -25,11 +25,11 @@ pub record Opened (d : Draft) (s : State) : Type 0 where
   pub vf : s.vf.entries ≡ []
   pub ee : s.ee.entries ≡ []
 
--- the depth k is set, in c: r is answered, and d left
-pub record DepthStep
-    (k : ℕ) (c : Core) (r : Result (Unit {0}) OpeningFault) (d : Core) : Type 0 where
+-- the depth k is set: r is answered, and it goes from the one to the other
+pub record DepthCall
+    (k : ℕ) (before : Core) (r : Result (Unit {0}) OpeningFault) (after : Core) : Type 0 where
   pub fault : fault_notice notice_of_opening r ≡ first_fit (depth_checks k)
-  pub core : d ≡ (if is_ok r then with_depth k c else c)
+  pub core : after ≡ (if is_ok r then with_depth k before else before)
 
 -- ---- runs
 -- an accepted offer, with the depth then set
@@ -39,8 +39,8 @@ pub record Accepted : Type 0 where
 
 abbrev pub history_after : List Accepted → Offering → ℕ → Result (Unit {0}) OfferFault
     → List Accepted
-history_after h o d (Ok u) = h ++ (record { what = o; depth = d } ∷ [])
-history_after h o d (Err e) = h
+history_after h o k (Ok u) = h ++ (record { what = o; depth = k } ∷ [])
+history_after h o k (Err e) = h
 
 -- these tables hold the sheet, as far as its counts go
 -- where one is too short they need agree with nothing
@@ -55,12 +55,12 @@ pub data Run (set : Shape → Bool) (d : Draft) (sheet : Sheet)
   -- the depth is set, or that is refused
   depth_set : {h : List Accepted} {s : State}
       (k : ℕ) (r : Result (Unit {0}) OpeningFault) (t : State)
-      → Run set d sheet h s → DepthStep k s.core r t.core → t.vf ≡ s.vf → t.ee ≡ s.ee
+      → Run set d sheet h s → DepthCall k s.core r t.core → t.vf ≡ s.vf → t.ee ≡ s.ee
       → Run set d sheet h t
   -- something is offered, over tables that bring the sheet; it is accepted or refused
   offered : {h : List Accepted} {s : State} (ps : List Point) (fs : List Face) (o : Offering)
       (r : Result (Unit {0}) OfferFault) (t : State)
-      → Run set d sheet h s → Brings d ps fs sheet → OfferStep set ps fs o s r t
+      → Run set d sheet h s → Brings d ps fs sheet → OfferCall set ps fs o s r t
       → Run set d sheet (history_after h o s.core.depth r) t
   -- a question: any call that leaves all of this as it was
   asked : {h : List Accepted} {s : State} (t : State)

@@ -9,12 +9,12 @@ use Rattle.motion.specs.declared.shapes.V3.{V3}
 use Rattle.motion.specs.declared.shapes.Moving.{Moving}
 use Rattle.inspection.specs.declared.sheets.Rows.{Rows}
 
--- a place, each coordinate as it counts
-abbrev pub place_of : Coords → V3
-place_of c = record { x = coordinate_of c.x; y = coordinate_of c.y; z = coordinate_of c.z }
+-- a position, each coordinate as it counts
+abbrev pub position_of : Coords → V3
+position_of c = record { x = coordinate_of c.x; y = coordinate_of c.y; z = coordinate_of c.z }
 
 abbrev pub moving_of : Point → Moving
-moving_of p = record { start = place_of p.start; end = place_of p.end }
+moving_of p = record { start = position_of p.start; end = position_of p.end }
 
 -- its points, from start to end as they count, and its faces
 pub record Sheet : Type 0 where

@@ -3,8 +3,8 @@ use Rattle.std.specs.Prelude.{ℕ, ◌+◌, List, slice_index_or}
 use Rattle.inspection.specs.declared.classes.Class.{Class}
 use Rattle.inspection.specs.declared.classes.Class.TheVariants.{Kept, Struck, Shared, Repeated}
 use Rattle.inspection.specs.declared.classes.Tally.{Tally}
-use Rattle.inspection.specs.declared.kinds.ListKind.{ListKind}
-use Rattle.inspection.specs.declared.kinds.ListKind.TheVariants.{Vf, Ee}
+use Rattle.motion.specs.declared.shapes.Kind.{Kind}
+use Rattle.motion.specs.declared.shapes.Kind.TheVariants.{Vf, Ee}
 
 abbrev pub no_tests : Tally
 no_tests = record { kept = 0; struck = 0; shared = 0; repeated = 0 }
@@ -30,6 +30,6 @@ sum_of s t =
     }
 
 -- of the two tallies of an inspection, that of this kind
-abbrev pub tally_in : ListKind → List Tally → Tally
+abbrev pub tally_in : Kind → List Tally → Tally
 tally_in Vf ts = slice_index_or ts 0 no_tests
 tally_in Ee ts = slice_index_or ts 1 no_tests

@@ -1,13 +1,13 @@
 -- The window of an entry: its checks, in their order, and its answer where none fits.
 use Rattle.std.specs.Prelude.{◌≡◌, ℕ, Bool, false, not, List, [], ◌∷◌, length, Some, None, Option, Result, IfOk, IfSome, nat_le, slice_get}
-use Rattle.sheet.specs.Checks.{Check, first_fit, fault_notice}
+use Rattle.sheet.specs.Checks.{Check, first_fit, fault_notice, check}
 use Rattle.sheet.specs.declared.notices.Layer.TheVariants.{Window}
 use Rattle.sheet.specs.declared.rows.Point.{Point}
 use Rattle.sheet.specs.declared.rows.Face.{Face}
 use Rattle.motion.specs.declared.shapes.Shape.{Shape}
 use Rattle.motion.specs.Depths.{window_at, WindowMeans}
 use Rattle.inspection.specs.declared.faults.WindowFault.{WindowFault}
-use Rattle.inspection.specs.Faults.{check, notice_of_window}
+use Rattle.inspection.specs.Faults.{notice_of_window}
 use Rattle.inspection.specs.Sheets.{Sheet, sheet_in}
 use Rattle.inspection.specs.Tests.{Naming}
 use Rattle.inspection.specs.Lists.{Contents}
@@ -33,9 +33,9 @@ module _
 
   abbrev pub window_checks : List Check
   window_checks =
-      check (lacks_rows c.draft ps fs) 16 Window 0
-      ∷ check (nat_le (length h.entries) i) 22 Window i
-      ∷ check (is_stray (n.inside sheet) (slice_get h.entries i)) 19 Window i ∷ []
+      check (lacks_rows c.draft ps fs) 16 Window 0 0
+      ∷ check (nat_le (length h.entries) i) 22 Window i 0
+      ∷ check (is_stray (n.inside sheet) (slice_get h.entries i)) 19 Window i 0 ∷ []
 
   -- of a filter's set at the depth now set
   pub record WindowAnswer (set : Shape → Bool) (r : Result (Option (ℕ × ℕ)) WindowFault)

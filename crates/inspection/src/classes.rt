@@ -1,9 +1,9 @@
 // The classes of tests, and their counts.
 ghost use Rattle.std.specs.Prelude.{◌≡◌, ◌+◌, ◌^◌, ◌<◌};
 ghost use Rattle.inspection.specs.Tallies.{no_tests, total, with_one_more, sum_of, tally_in};
-ghost use Rattle.inspection.specs.declared.kinds.ListKind.TheVariants.{Vf, Ee};
+ghost use Rattle.motion.specs.declared.shapes.Kind.TheVariants.{Vf, Ee};
 
-use crate::kinds::ListKind;
+use motion::Kind;
 
 /// What became of a test of an offer: the first of shared, struck, repeated and kept that fits.
 #[derive(Clone, Copy)]
@@ -37,8 +37,8 @@ impl Counts {
         ensures ee { result.ee ≡ tally_in Ee tallies.now }
     {
         Counts {
-            vf: tallies[ListKind::Vf as usize],
-            ee: tallies[ListKind::Ee as usize],
+            vf: tallies[Kind::Vf as usize],
+            ee: tallies[Kind::Ee as usize],
         }
     }
 }

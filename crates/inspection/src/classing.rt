@@ -1,7 +1,7 @@
 // The class of each test of an offer.
 ghost use Rattle.std.specs.Prelude.{◌≡◌, ◌+◌, ◌≤◌, ◌<◌};
 ghost use Rattle.arrayvec.specs.ArrayVec.{array_vec_len};
-ghost use Rattle.inspection.specs.Classes.{entries_with};
+ghost use Rattle.inspection.specs.Classes.{entries_after_one};
 
 use crate::classes::{Class, Tally};
 use crate::entries::is_among;
@@ -85,7 +85,7 @@ impl<'a, F: Filter> Judge<'a, F> {
 /// Adds a test to the new entries where it is kept.
 fn push_kept<E: Copy, const N: usize>(new: &mut ArrayVec<E, N>, class: Class, e: E)
     requires { array_vec_len new.old < N }
-    ensures items { new.new.items ≡ entries_with class new.old.items e }
+    ensures items { new.new.items ≡ entries_after_one class new.old.items e }
     ensures len { array_vec_len new.new ≤ array_vec_len new.old + 1 }
 {
     if let Class::Kept = class {

@@ -1,6 +1,6 @@
 // Why a call of an inspection is refused.
 ghost use Rattle.std.specs.Prelude.{◌≡◌};
-ghost use Rattle.inspection.specs.Faults.{notice_at, notice_of_opening, notice_of_offer, notice_of_window};
+ghost use Rattle.inspection.specs.Faults.{notice_of_opening, notice_of_offer, notice_of_window};
 
 use sheet::{Layer, Notice};
 
@@ -23,7 +23,7 @@ pub enum OfferFault {
     NoSuchPoint(u16),
     /// A million offers are accepted already.
     TooManyOffers,
-    /// A list has fewer free places than there are new entries.
+    /// A list has less room than there are new entries.
     ListFull,
 }
 
@@ -37,24 +37,13 @@ pub enum WindowFault {
     NotOfTheSheet(u32),
 }
 
-fn notice(number: u8, layer: Layer, first: u32) -> Notice
-    ensures { result ≡ notice_at number layer first }
-{
-    Notice {
-        number,
-        layer,
-        first,
-        second: 0,
-    }
-}
-
 impl OpeningFault {
     /// The fault's number, layer and places.
     pub fn notice(self) -> Notice
         ensures { result ≡ notice_of_opening self }
     {
         match self {
-            OpeningFault::TooDeep(depth) => notice(15, Layer::Opening, u32::from(depth)),
+            OpeningFault::TooDeep(depth) => Notice::new(15, Layer::Opening, u32::from(depth), 0),
         }
     }
 }
@@ -65,12 +54,12 @@ impl OfferFault {
         ensures { result ≡ notice_of_offer self }
     {
         match self {
-            OfferFault::TableTooShort => notice(16, Layer::Offer, 0),
-            OfferFault::NoSuchFace(face) => notice(17, Layer::Offer, u32::from(face)),
-            OfferFault::SameFace(face) => notice(18, Layer::Offer, u32::from(face)),
-            OfferFault::NoSuchPoint(face) => notice(19, Layer::Offer, u32::from(face)),
-            OfferFault::TooManyOffers => notice(20, Layer::Offer, 0),
-            OfferFault::ListFull => notice(21, Layer::Offer, 0),
+            OfferFault::TableTooShort => Notice::new(16, Layer::Offer, 0, 0),
+            OfferFault::NoSuchFace(face) => Notice::new(17, Layer::Offer, u32::from(face), 0),
+            OfferFault::SameFace(face) => Notice::new(18, Layer::Offer, u32::from(face), 0),
+            OfferFault::NoSuchPoint(face) => Notice::new(19, Layer::Offer, u32::from(face), 0),
+            OfferFault::TooManyOffers => Notice::new(20, Layer::Offer, 0, 0),
+            OfferFault::ListFull => Notice::new(21, Layer::Offer, 0, 0),
         }
     }
 }
@@ -81,9 +70,9 @@ impl WindowFault {
         ensures { result ≡ notice_of_window self }
     {
         match self {
-            WindowFault::TableTooShort => notice(16, Layer::Window, 0),
-            WindowFault::NoSuchEntry(entry) => notice(22, Layer::Window, entry),
-            WindowFault::NotOfTheSheet(entry) => notice(19, Layer::Window, entry),
+            WindowFault::TableTooShort => Notice::new(16, Layer::Window, 0, 0),
+            WindowFault::NoSuchEntry(entry) => Notice::new(22, Layer::Window, entry, 0),
+            WindowFault::NotOfTheSheet(entry) => Notice::new(19, Layer::Window, entry, 0),
         }
     }
 }

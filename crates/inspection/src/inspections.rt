@@ -5,15 +5,14 @@ ghost use Rattle.motion.specs.Depths.{window_at, WindowMeans};
 ghost use Rattle.inspection.specs.Faults.{notice_of_opening};
 ghost use Rattle.inspection.specs.Tallies.{total, tally_in};
 ghost use Rattle.inspection.specs.Sheets.{sheet_in, sheet_of_rows};
-ghost use Rattle.inspection.specs.Lists.{contents_of, entries, with_entries, without_entries};
+ghost use Rattle.inspection.specs.Lists.{contents_of, entries, grown_to, without_entries};
 ghost use Rattle.inspection.specs.Tests.{vf_naming, ee_naming};
-ghost use Rattle.inspection.specs.declared.kinds.ListKind.TheVariants.{Vf, Ee};
+ghost use Rattle.motion.specs.declared.shapes.Kind.TheVariants.{Vf, Ee};
 ghost use Rattle.inspection.specs.declared.faults.OfferFault.TheVariants.{ListFull};
 
 use crate::classes::{Counts, Tally};
 use crate::classing::Judge;
 use crate::faults::{OfferFault, OpeningFault, WindowFault};
-use crate::kinds::ListKind;
 use crate::lists::List;
 use crate::names::{EeName, VfName};
 use crate::offerings::Offering;
@@ -23,6 +22,7 @@ use crate::sheets::Rows;
 use crate::tests::TestName;
 use arrayvec::ArrayVec;
 use filters::{Filter, window_at};
+use motion::Kind;
 use sheet::{Draft, Face, Point};
 
 mod closing;
@@ -38,7 +38,7 @@ pub struct Inspection<F> {
     draft: Draft,
     filter: F,
     depth: u8,
-    // one for each `ListKind`
+    // one for each `Kind`
     tallies: [Tally; 2],
     accepted: u32,
     ghost depths: { depth ≤ 6 },
@@ -66,9 +66,9 @@ struct PairOutcome {
 
 impl<F: Filter> Inspection<F> {
     ghost use Rattle.inspection.specs.States.{core_of, state_of, core_at_start, with_counts};
-    ghost use Rattle.inspection.specs.Offers.{lacks_rows, Outcome, OfferStep};
+    ghost use Rattle.inspection.specs.Offers.{lacks_rows, Outcome, OfferCall};
     ghost use Rattle.inspection.specs.Windows.{WindowAnswer};
-    ghost use Rattle.inspection.specs.Runs.{depth_checks, Opened, DepthStep};
+    ghost use Rattle.inspection.specs.Runs.{depth_checks, Opened, DepthCall};
     ghost use Rattle.inspection.specs.Claims.{Findings};
 
     /// Opens an inspection of the draft's sheet, at a depth from 0 to 6: all counts are zero, and
@@ -114,7 +114,7 @@ impl<F: Filter> Inspection<F> {
 
     /// Sets the depth, at any moment. A depth over 6 is refused, and leaves the one that was set.
     pub fn set_depth(&mut self, depth: u8) -> Result<(), OpeningFault>
-        ensures step { DepthStep depth (core_of self.old) result (core_of self.new) }
+        ensures call { DepthCall depth (core_of self.old) result (core_of self.new) }
         ensures filter { self.new.filter ≡ self.old.filter }
     {
         if is_too_deep(depth) {
@@ -135,7 +135,7 @@ impl<F: Filter> Inspection<F> {
         ee: &mut List<'_, EeName>,
         what: Offering,
     ) -> Result<(), OfferFault>
-        ensures step { OfferStep (F.Filter.struck self.old.filter) points.now faces.now
+        ensures call { OfferCall (F.Filter.struck self.old.filter) points.now faces.now
             what (state_of self.old vf.old ee.old) result (state_of self.new vf.new ee.new) }
         ensures filter { self.new.filter ≡ self.old.filter }
     {
@@ -172,7 +172,7 @@ impl<F: Filter> Inspection<F> {
         }
     }
 
-    /// Lists and counts what a pair's tests come to. Where a list has fewer free places than new
+    /// Lists and counts what a pair's tests come to. Where a list has less room than there are new
     /// entries, all is left as it was.
     fn accept(
         &mut self,
@@ -187,10 +187,10 @@ impl<F: Filter> Inspection<F> {
             let ee_short = nat_lt (length (contents_of ee.old).rest) (length new.now.ee.items) in
             result ≡ (if vf_short || ee_short then Err ListFull else Ok tt) }
         ensures vf { let old = contents_of vf.old in
-            let grown = with_entries (old.entries ++ new.now.vf.items) old in
+            let grown = grown_to (old.entries ++ new.now.vf.items) old in
             contents_of vf.new ≡ (if is_ok result then grown else old) }
         ensures ee { let old = contents_of ee.old in
-            let grown = with_entries (old.entries ++ new.now.ee.items) old in
+            let grown = grown_to (old.entries ++ new.now.ee.items) old in
             contents_of ee.new ≡ (if is_ok result then grown else old) }
         ensures core { let old = core_of self.old in
             let counted = with_counts new.now.vf_tally new.now.ee_tally old in
@@ -214,8 +214,8 @@ impl<F: Filter> Inspection<F> {
         ensures core { core_of self.new ≡ with_counts vf ee (core_of self.old) }
         ensures filter { self.new.filter ≡ self.old.filter }
     {
-        self.tallies[ListKind::Vf as usize].add(vf);
-        self.tallies[ListKind::Ee as usize].add(ee);
+        self.tallies[Kind::Vf as usize].add(vf);
+        self.tallies[Kind::Ee as usize].add(ee);
         self.accepted += 1;
     }
 

@@ -3,31 +3,31 @@ ghost use Rattle.std.specs.Prelude.{◌≤◌, length};
 
 use crate::entries::{Entry, is_among};
 
-/// A list over a lent table: its entries stand in the first places, the rest of the table is free.
+/// A list over a lent table: its entries stand in the table's front, and the rest of it is free.
 #[derive(Drop)]
 pub struct List<'a, E> {
-    places: &'a mut [E],
+    table: &'a mut [E],
     len: usize,
-    ghost fits: { len ≤ length places.now },
+    ghost fits: { len ≤ length table.now },
 }
 
 impl<'a, E: Entry> List<'a, E> {
     ghost use Rattle.std.specs.Prelude.{◌≡◌, ◌↔◌, ◌+◌, ◌++◌, [], IsTrue, slice_get};
-    ghost use Rattle.inspection.specs.Lists.{contents_of, entries, has, with_entries, without_entries};
+    ghost use Rattle.inspection.specs.Lists.{contents_of, entries, has, grown_to, without_entries};
 
     /// An empty list over a table.
-    pub fn new(places: &'a mut [E]) -> List<'a, E>
+    pub fn new(table: &'a mut [E]) -> List<'a, E>
         ensures { contents_of result
-            ≡ record { entries = []; rest = places.old; lender = places.entry.ghost_name } }
+            ≡ record { entries = []; rest = table.old; lender = table.entry.ghost_name } }
     {
-        List { places, len: 0 }
+        List { table, len: 0 }
     }
 
     /// The entries in their order.
     pub fn entries(&self) -> &[E]
         ensures { result.now ≡ entries self.now }
     {
-        &self.places[..self.len]
+        &self.table[..self.len]
     }
 
     /// How many entries there are.
@@ -48,7 +48,7 @@ impl<'a, E: Entry> List<'a, E> {
     pub fn free(&self) -> usize
         ensures { result ≡ length (contents_of self.now).rest }
     {
-        self.places.len() - self.len
+        self.table.len() - self.len
     }
 
     /// The entry with this number, from 0.
@@ -76,10 +76,10 @@ impl<'a, E: Entry> List<'a, E> {
     pub(crate) fn extend(&mut self, new: &[E])
         requires { length new.now ≤ length (contents_of self.old).rest }
         ensures { contents_of self.new
-            ≡ with_entries (entries self.old ++ new.now) (contents_of self.old) }
+            ≡ grown_to (entries self.old ++ new.now) (contents_of self.old) }
     {
         let end = self.len + new.len();
-        self.places[self.len..end].copy_from_slice(new);
+        self.table[self.len..end].copy_from_slice(new);
         self.len = end;
     }
 }

@@ -1,7 +1,7 @@
 // What can be asked of an inspection, and its answers.
 use crate::faults::{OfferFault, OpeningFault, WindowFault};
-use crate::kinds::ListKind;
 use crate::offerings::Offering;
+use motion::Kind;
 
 /// One call of an inspection.
 #[derive(Clone, Copy, Debug, PartialEq, Eq)]
@@ -11,7 +11,7 @@ pub enum Request {
     /// This is offered.
     Offer(Offering),
     /// The window of an entry of one list.
-    Window(ListKind, u32),
+    Window(Kind, u32),
 }
 
 /// What the call answered.

@@ -2,7 +2,7 @@
 ghost use Rattle.std.specs.Prelude.{◌≡◌, ◌≤◌, length, unsigned_abs, is_none, IfSome};
 ghost use Rattle.sheet.specs.Counted.{coordinate_of};
 ghost use Rattle.motion.specs.Laws.{Within, InReach};
-ghost use Rattle.inspection.specs.Sheets.{place_of, moving_of, sheet_of, sheet_in, sheet_of_rows, point_at, face_at};
+ghost use Rattle.inspection.specs.Sheets.{position_of, moving_of, sheet_of, sheet_in, sheet_of_rows, point_at, face_at};
 ghost use Rattle.inspection.specs.Offers.{lacks_rows};
 
 use motion::{Moving, V3};
@@ -83,13 +83,13 @@ fn moving(point: Point) -> Moving
     ensures reach { InReach 0 result }
 {
     Moving {
-        start: place(point.start),
-        end: place(point.end),
+        start: position(point.start),
+        end: position(point.end),
     }
 }
 
-fn place(coords: Coords) -> V3
-    ensures value { result ≡ place_of coords }
+fn position(coords: Coords) -> V3
+    ensures value { result ≡ position_of coords }
     ensures reach { Within 4096 result }
 {
     V3 {

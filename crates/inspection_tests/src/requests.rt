@@ -1,19 +1,19 @@
-// Requests that are worked through, and the pairs that bytes hold.
+// Requests that are worked through.
 use crate::plans::{crossing, tally};
 use filters::DELIVERED;
 use inspection::{
-    Answer, EeName, List, ListKind, OfferFault, Offering, OpeningFault, Request, VfName, inspect,
-    offers_in, pair_offers,
+    Answer, EeName, List, OfferFault, Offering, OpeningFault, Request, VfName, inspect,
 };
+use motion::Kind;
 use std::test::Fail;
 
 const REQUESTS: [Request; 7] = [
     Request::Offer(Offering::Faces(0, 1)),
     Request::Offer(Offering::Faces(1, 1)),
-    Request::Window(ListKind::Vf, 0),
+    Request::Window(Kind::Vf, 0),
     Request::SetDepth(7),
     Request::SetDepth(6),
-    Request::Window(ListKind::Vf, 0),
+    Request::Window(Kind::Vf, 0),
     Request::Offer(Offering::Faces(1, 0)),
 ];
 
@@ -48,21 +48,5 @@ fn in_any_mix(rt: HostRuntime) -> Result<(), Fail> {
     assert_eq!(rt; answers[4], Answer::DepthSet(Ok(())));
     assert_eq!(rt; answers[5], Answer::Window(Ok(Some((31, 32)))));
     assert_eq!(rt; worked.inspection.findings(&vf, &ee).vf, tally(1, 5, 0, 0));
-    Ok(())
-}
-
-#[test]
-fn of_bytes(rt: HostRuntime) -> Result<(), Fail> {
-    let bytes = [0, 0, 1, 0, 255, 15, 2, 1, 9, 9, 9];
-    let mut pairs = pair_offers(&bytes);
-    assert_eq!(rt; pairs.next(), Some(Offering::Faces(0, 1)));
-    assert_eq!(rt; pairs.next(), Some(Offering::Faces(4095, 258)));
-    assert_eq!(rt; pairs.next(), None);
-    let offers = offers_in(rt.alloc(), &bytes)?;
-    assert_eq!(rt; offers.len(), 2);
-    assert_eq!(rt;
-        offers.as_slice(),
-        [Offering::Faces(0, 1), Offering::Faces(4095, 258)].as_slice()
-    );
     Ok(())
 }

@@ -41,7 +41,7 @@ same-controls e = λ i. record { g0 = e.0 i; g1 = e.1 i; g2 = e.2 i; g3 = e.3 i 
 abbrev pub sum : Triple → Triple → Triple
 sum s e = record { u = s.u +ᵛ e.u; v = s.v +ᵛ e.v; w = s.w +ᵛ e.w }
 
--- the place after p of r + p parts, times r + p
+-- the position after p of r + p parts, times r + p
 abbrev pub along : ℤ → ℤ → Triple → Triple → Triple
 along r p s e = record { u = r ·ᵛ s.u +ᵛ p ·ᵛ e.u; v = r ·ᵛ s.v +ᵛ p ·ᵛ e.v; w = r ·ᵛ s.w +ᵛ p ·ᵛ e.w }
 

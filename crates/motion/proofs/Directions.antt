@@ -3,7 +3,7 @@ use Rattle.std.proofs.Common.{◌≡◌, ℕ, ◌<◌, ℤ, sym, refl, ◌∙◌
 use Rattle.std.specs.List.{Contains, slice_index_or}
 use Rattle.std.proofs.lemmas.List.Elements.{All-contains}
 use Rattle.motion.specs.Vectors.{vector}
-use Rattle.motion.specs.Slab.{directions, IsEntry, LeadsByOne, IsDirection, ListsAllDirections, one, none}
+use Rattle.motion.specs.Slab.{directions, IsEntry, LeadsByOne, IsDirection, ListsAllDirections, one, nought}
 use Rattle.motion.proofs.Members.{Each, each-at}
 
 -- ---- each of the table is one
@@ -11,7 +11,7 @@ all-directions : Each IsDirection directions
 all-directions = search (inl, inr)
 
 -- ---- each direction is in the table
--- place k of the table has x, y, z
+-- row k of the table has x, y, z
 found : (k : ℕ) (x y z x' y' z' : ℤ) → k < 13 → slice_index_or directions k (vector x y z) ≡ vector x' y' z' → x ≡ x' → y ≡ y' → z ≡ z' → Contains directions (vector x y z)
 found k x y z x' y' z' h e p q r = (k, h, e ∙ (λ j. vector (sym p j) (sym q j) (sym r j)))
 
@@ -27,7 +27,7 @@ module _ (x y z : ℤ) where
   after-x e (inl f) (inr (inr g)) = found 11 x y z _ _ _ (omega arith) refl e f g
   after-x e (inl f) (inl g) = found 12 x y z _ _ _ (omega arith) refl e f g
 
-  after-y : x ≡ none → y ≡ one → IsEntry z → Contains directions (vector x y z)
+  after-y : x ≡ nought → y ≡ one → IsEntry z → Contains directions (vector x y z)
   after-y e f (inr (inl g)) = found 1 x y z _ _ _ (omega arith) refl e f g
   after-y e f (inr (inr g)) = found 7 x y z _ _ _ (omega arith) refl e f g
   after-y e f (inl g) = found 8 x y z _ _ _ (omega arith) refl e f g

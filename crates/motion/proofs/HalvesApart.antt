@@ -15,7 +15,7 @@ use Rattle.motion.proofs.Integers.{scales}
 use Rattle.motion.proofs.Products.{same}
 use Rattle.motion.proofs.Halves.{at_start, at_middle, at_end, ones-of, others-of}
 
--- ---- the same place, on the finer grid
+-- ---- the same position, on the finer grid
 first-at : (p q : ℕ) (m : Moving) → at (2 * p) q (portion 1 0 m) ≡ pos 2 ·ᵛ at p q m
 unfolding at ◌+ᵛ◌ ◌·ᵛ◌
 first-at p q m = rw (at_start m, at_middle m) (same (simp scales (omega (arith, ints))))

@@ -3,7 +3,7 @@ pub mod Products
 pub mod Signs
 pub mod Determinants
 pub mod Gaps
-pub mod Places
+pub mod Positions
 pub mod Halves
 pub mod Members
 pub mod Separating

@@ -16,7 +16,7 @@ use Rattle.motion.proofs.Products.{same, dot-minus, dot-comm, cross-first, cross
 use Rattle.motion.proofs.Determinants.{values, at_start, at_end, sum, controls-are, left, right, left-is, right-is, all, halves-all, stays, cube}
 use Rattle.motion.proofs.Signs.{Sign, positive, negative}
 use Rattle.motion.proofs.Gaps.{size, size-times, cross-small}
-use Rattle.motion.proofs.Places.{at-minus, within-at, within-minus}
+use Rattle.motion.proofs.Positions.{at-minus, within-at, within-minus}
 use Rattle.motion.proofs.Halves.{minus-start, minus-middle, minus-end}
 use Rattle.motion.proofs.Members.{Each, each-map}
 use Rattle.motion.proofs.Separating.{apart-along}

@@ -14,7 +14,7 @@ use Rattle.motion.proofs.Integers.{times-ge}
 use Rattle.motion.proofs.Products.{dot-sum, dot-times, times-dot}
 use Rattle.motion.proofs.Signs.{Sign, positive, negative}
 use Rattle.motion.proofs.Gaps.{size, size-times}
-use Rattle.motion.proofs.Places.{at-minus}
+use Rattle.motion.proofs.Positions.{at-minus}
 use Rattle.motion.proofs.RowLaws.{row-lawful}
 use Rattle.motion.proofs.Halves.{minus-start, minus-middle, minus-end, ones-of, others-of}
 use Rattle.motion.proofs.Members.{Each, each-passes, all-map}

@@ -9,7 +9,7 @@ use Rattle.motion.specs.Vectors.{◌+ᵛ◌, ◌·ᵛ◌}
 use Rattle.motion.specs.Laws.{Valid, Within, InReach, at, after, portion, with_points, subinterval, half}
 use Rattle.motion.proofs.Integers.{scales}
 use Rattle.motion.proofs.Products.{same}
-use Rattle.motion.proofs.Places.{within-at}
+use Rattle.motion.proofs.Positions.{within-at}
 
 -- ---- a subinterval of a half
 nested-at : (m : Moving) (H i j : ℕ) → at (i * H + j) (2 * H) m ≡ at j H (record { start = at i 2 m; end = at (i + 1) 2 m })

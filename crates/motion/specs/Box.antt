@@ -19,8 +19,14 @@ abbrev pub coordinates : (V3 → ℤ) → List Moving → List ℤ
 coordinates axis [] = []
 coordinates axis (m ∷ ms) = axis m.start ∷ axis m.end ∷ coordinates axis ms
 
+abbrev pub greatest : List ℤ → ℤ
+greatest = extreme int_max
+
+abbrev pub least : List ℤ → ℤ
+least = extreme int_min
+
 abbrev pub under : (V3 → ℤ) → List Moving → List Moving → Bool
-under axis ms ns = int_lt (extreme int_max (coordinates axis ms)) (extreme int_min (coordinates axis ns))
+under axis ms ns = int_lt (greatest (coordinates axis ms)) (least (coordinates axis ns))
 
 abbrev pub parted_on : (V3 → ℤ) → Shape → Bool
 parted_on axis t = under axis (first t) (second t) || under axis (second t) (first t)

@@ -17,9 +17,9 @@ use Rattle.motion.specs.Depths.{struck_at, IsWindow, window_at}
 abbrev minus : ℕ → ℤ
 minus n = neg_ℤ (pos n)
 
--- a place with no coordinate below zero
-abbrev place : ℕ → ℕ → ℕ → V3
-place x y z = vector (pos x) (pos y) (pos z)
+-- a position with no coordinate below zero
+abbrev position : ℕ → ℕ → ℕ → V3
+position x y z = vector (pos x) (pos y) (pos z)
 
 infix 5 ◌to◌
 abbrev ◌to◌ : V3 → V3 → Moving
@@ -39,11 +39,11 @@ values a b c d = record { g0 = a; g1 = b; g2 = c; g3 = d }
 
 -- against the resting face (0,0,0), (4,0,0), (0,4,0)
 abbrev over_t : Moving → Shape
-over_t p = vf p (resting origin) (resting (place 4 0 0)) (resting (place 0 4 0))
+over_t p = vf p (resting origin) (resting (position 4 0 0)) (resting (position 0 4 0))
 
 -- the point (1,1,1), which goes to (1,1,z)
 abbrev above : ℤ → Moving
-above z = place 1 1 1 to vector (pos 1) (pos 1) z
+above z = position 1 1 1 to vector (pos 1) (pos 1) z
 
 abbrev pub leaving : Shape
 leaving = over_t (above (pos 3))
@@ -55,25 +55,25 @@ abbrev pub landing : Shape
 landing = over_t (above (pos 0))
 
 abbrev pub beside : Shape
-beside = over_t (resting (place 9 9 0))
+beside = over_t (resting (position 9 9 0))
 
 -- the face rises by ten, and the point with it
 abbrev pub rising : Shape
 rising =
-    vf (above (pos 11)) (origin to place 0 0 10)
-    (place 4 0 0 to place 4 0 10) (place 0 4 0 to place 0 4 10)
+    vf (above (pos 11)) (origin to position 0 0 10)
+    (position 4 0 0 to position 4 0 10) (position 0 4 0 to position 0 4 10)
 
 abbrev pub turning : Shape
 turning =
-    vf (place 2 0 2 to vector (minus 2) (pos 0) (pos 0)) (resting origin)
-    (place 1 0 0 to place 0 0 1) (resting (place 0 1 0))
+    vf (position 2 0 2 to vector (minus 2) (pos 0) (pos 0)) (resting origin)
+    (position 1 0 0 to position 0 0 1) (resting (position 0 1 0))
 
 -- two edges, one of which sinks through the other
 abbrev pub sinking : Shape
 sinking =
-    ee (resting (vector (minus 2) (pos 0) (pos 0))) (resting (place 2 0 0))
+    ee (resting (vector (minus 2) (pos 0) (pos 0))) (resting (position 2 0 0))
     (vector (pos 0) (minus 2) (pos 1) to vector (pos 0) (minus 2) (minus 1))
-    (place 0 2 1 to vector (pos 0) (pos 2) (minus 1))
+    (position 0 2 1 to vector (pos 0) (pos 2) (minus 1))
 
 -- the seven of them
 abbrev pub worked_tests : List Shape

@@ -28,17 +28,17 @@ parted_along t d = pairs (above d) t || pairs (below d) t
 abbrev pub one : ℤ
 one = pos 1
 
-abbrev pub none : ℤ
-none = pos 0
+abbrev pub nought : ℤ
+nought = pos 0
 
 abbrev pub back : ℤ
 back = negsuc 0
 
 abbrev pub directions : List V3
 directions =
-    vector one none none ∷ vector none one none ∷ vector none none one
-    ∷ vector one one none ∷ vector one back none ∷ vector one none one ∷ vector one none back
-    ∷ vector none one one ∷ vector none one back
+    vector one nought nought ∷ vector nought one nought ∷ vector nought nought one
+    ∷ vector one one nought ∷ vector one back nought ∷ vector one nought one ∷ vector one nought back
+    ∷ vector nought one one ∷ vector nought one back
     ∷ vector one one one ∷ vector one one back ∷ vector one back one ∷ vector one back back ∷ []
 
 abbrev pub slab_set : Shape → Bool
@@ -47,12 +47,12 @@ slab_set t = list_any (parted_along t) directions
 -- ---- which directions these are
 -- −1, 0 or 1
 abbrev pub IsEntry : ℤ → Type 0
-IsEntry z = (z ≡ back) ⊎ ((z ≡ none) ⊎ (z ≡ one))
+IsEntry z = (z ≡ back) ⊎ ((z ≡ nought) ⊎ (z ≡ one))
 
 -- the first entry that is not 0 is 1
 abbrev pub LeadsByOne : V3 → Type 0
 LeadsByOne d =
-    (d.x ≡ one) ⊎ ((d.x ≡ none) × ((d.y ≡ one) ⊎ ((d.y ≡ none) × (d.z ≡ one))))
+    (d.x ≡ one) ⊎ ((d.x ≡ nought) × ((d.y ≡ one) ⊎ ((d.y ≡ nought) × (d.z ≡ one))))
 
 abbrev pub IsDirection : V3 → Type 0
 IsDirection d = IsEntry d.x × IsEntry d.y × IsEntry d.z × LeadsByOne d

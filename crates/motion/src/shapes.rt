@@ -17,10 +17,12 @@ pub struct Moving {
     pub end: V3,
 }
 
-/// What a test sets against each other: a vertex and a face, or two edges.
-#[derive(Clone, Copy)]
+/// A kind of tests: what they set against each other.
+#[derive(Clone, Copy, Debug, PartialEq, Eq)]
 pub enum Kind {
+    /// A vertex and a face.
     Vf,
+    /// Two edges.
     Ee,
 }
 

@@ -7,7 +7,7 @@ use Rattle.sheet.specs.declared.rows.Face.{Face}
 use Rattle.motion.specs.declared.shapes.Shape.{Shape}
 use Rattle.inspection.specs.declared.classes.Counts.{Counts}
 use Rattle.inspection.specs.declared.faults.OfferFault.{OfferFault}
-use Rattle.inspection.specs.declared.kinds.ListKind.TheVariants.{Vf, Ee}
+use Rattle.motion.specs.declared.shapes.Kind.TheVariants.{Vf, Ee}
 use Rattle.inspection.specs.declared.names.VfName.{VfName}
 use Rattle.inspection.specs.declared.names.EeName.{EeName}
 use Rattle.inspection.specs.Tallies.{tally_in}
@@ -16,7 +16,7 @@ use Rattle.inspection.specs.declared.offerings.Offering.{Offering}
 use Rattle.inspection.specs.declared.offerings.Offering.TheVariants.{Faces}
 use Rattle.inspection.specs.Sheets.{sheet_in}
 use Rattle.inspection.specs.States.{Core, State, with_depth}
-use Rattle.inspection.specs.Offers.{offer_checks, OfferStep}
+use Rattle.inspection.specs.Offers.{offer_checks, OfferCall}
 use Rattle.inspection.specs.Runs.{Accepted, history_after}
 use Rattle.inspection.specs.Claims.{Claim}
 
@@ -38,10 +38,10 @@ module _ (set : Shape → Bool) (ps : List Point) (fs : List Face) where
   pub record Offered (f g : ℕ) (start : State) (counts : Counts) (vf : Contents VfName)
       (ee : Contents EeName) : Type 0 where
     pub middle : State
-    pub first : OfferStep set ps fs (Faces f g) start (Ok tt) middle
+    pub first : OfferCall set ps fs (Faces f g) start (Ok tt) middle
     pub core : Core
     pub answer : Result (Unit {0}) OfferFault
-    pub second : OfferStep set ps fs (Faces g f) (deeper middle) answer
+    pub second : OfferCall set ps fs (Faces g f) (deeper middle) answer
         (record { core = core; vf = vf; ee = ee })
     pub counted : counts ≡ counts_in core
     pub claim :

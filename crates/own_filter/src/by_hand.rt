@@ -3,7 +3,7 @@ ghost use Rattle.std.specs.Prelude.{◌≡◌, ◌↔◌, IsNone, IsSome, IfNone
 ghost use Rattle.inspection.specs.declared.offerings.Offering.TheVariants.{Faces};
 ghost use Rattle.inspection.specs.Lists.{contents_of, without_entries};
 ghost use Rattle.inspection.specs.States.{state_of, state_at_start};
-ghost use Rattle.inspection.specs.Offers.{OfferStep};
+ghost use Rattle.inspection.specs.Offers.{OfferCall};
 ghost use Rattle.own_filter.specs.ByHand.{fault_of_offer, Offered};
 
 use filters::Filter;
@@ -86,9 +86,9 @@ fn accepted<F: Filter + Drop>(
         IsNone result ↔ IsSome fault }
     ensures refused_vf { IfNone result (contents_of vf.new ≡ contents_of vf.old) }
     ensures refused_ee { IfNone result (contents_of ee.new ≡ contents_of ee.old) }
-    ensures step { let set = F.Filter.struck inspection.filter in
+    ensures call { let set = F.Filter.struck inspection.filter in
         let start = state_of inspection vf.old ee.old in
-        IfSome result (λ i. OfferStep set points.now faces.now (Faces first second) start (Ok tt)
+        IfSome result (λ i. OfferCall set points.now faces.now (Faces first second) start (Ok tt)
         (state_of i vf.new ee.new)) }
     ensures filter { IfSome result (λ i. i.filter ≡ inspection.filter) }
 {
@@ -128,7 +128,7 @@ fn offer_turned<F: Filter>(
     first: u16,
     second: u16,
 ) -> Result<(), OfferFault>
-    ensures step { OfferStep (F.Filter.struck inspection.old.filter) points.now faces.now
+    ensures call { OfferCall (F.Filter.struck inspection.old.filter) points.now faces.now
         (Faces second first) (state_of inspection.old vf.old ee.old) result
         (state_of inspection.new vf.new ee.new) }
     ensures filter { inspection.new.filter ≡ inspection.old.filter }

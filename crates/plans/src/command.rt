@@ -24,7 +24,7 @@ Of each pair that is not refused, what shares no point and is not printed stays 
 Of a refused pair nothing is said: where a list was full (fault 21), give the refused pairs a run of their own.
 
 A sheet has at most 2,048 points, 4,096 faces and 65,536 bytes of text, with coordinates from -4096 to 4096.
-Each list has 512 places, and a million pairs are accepted. Tests are struck at depth 2, in the four parts of the step.
+Each list has 512 operands, and a million pairs are accepted. Tests are struck at depth 2, in the four parts of the step.
 
   --refused FILE   also stores the refused pairs in FILE, in the form of pairs.bin; a fault of the sheet or of the step leaves it as it was
   -h, --help       prints this
@@ -49,8 +49,8 @@ pub fn inspect_command(rt: &HostRuntime) -> u8
     ensures { result ≤ 1 }
 {
     match given(rt, &ABOUT) {
-        Ok(Given { places, refused }) => {
-            let folder = places.first().map_or(".", |place| place.as_str());
+        Ok(Given { operands, refused }) => {
+            let folder = operands.first().map_or(".", |site| site.as_str());
             inspect_folder(rt, folder, refused)
         }
         Err(status) => status,

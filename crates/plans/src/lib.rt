@@ -9,4 +9,4 @@ mod runs;
 pub use command::inspect_command;
 pub use paths::Paths;
 pub use programs::inspect_folder;
-pub use runs::{inspect_placed, status};
+pub use runs::{inspect_on_disk, status};

@@ -2,7 +2,7 @@
 ghost use Rattle.std.specs.Prelude.{◌≡◌, IfOk};
 ghost use Rattle.plans.specs.PlanPaths.{file_name};
 
-use files::{Last, Places};
+use files::{FilePaths, Last};
 use printout::{Ending, PlanFile};
 use std::alloc::{AllocError, Global};
 use std::path::{Path, PathBuf};
@@ -38,7 +38,7 @@ impl Paths {
     }
 }
 
-impl Places for Paths {
+impl FilePaths for Paths {
     ghost use Rattle.plans.specs.PlanPaths.{path_of, refused_path, lasts};
 
     type File = PlanFile;

@@ -2,8 +2,8 @@
 ghost use Rattle.std.specs.Prelude.{◌≤◌};
 
 use crate::paths::Paths;
-use crate::runs::{inspect_placed, status};
-use files::{Machine, Placed, Watched, place_name, tell};
+use crate::runs::{inspect_on_disk, status};
+use files::{Machine, OnDisk, Watched, site_name, tell};
 use printout::{PlanFile, Tables};
 
 /// What is told on a terminal: how many pairs are done.
@@ -25,15 +25,15 @@ pub fn inspect_folder(rt: &HostRuntime, folder: &str, refused: Option<String>) -
     let disk = match Machine::new(*rt, Some(PAIRS)) {
         Ok(disk) => disk,
         Err(failure) => {
-            tell(rt, place_name(&paths, failure.place), failure.reason);
+            tell(rt, site_name(&paths, failure.site), failure.reason);
             return 1;
         }
     };
     let mut tables = Tables::new();
-    let mut plan = Placed { disk, paths };
-    let run = inspect_placed(&mut tables, &mut plan);
+    let mut plan = OnDisk { disk, paths };
+    let run = inspect_on_disk(&mut tables, &mut plan);
     if let Err(failure) = &run {
-        tell(rt, place_name(&plan.paths, failure.place), failure.reason);
+        tell(rt, site_name(&plan.paths, failure.site), failure.reason);
     }
     status(&run)
 }

@@ -3,14 +3,14 @@ ghost use Rattle.std.specs.Prelude.{◌≡◌};
 ghost use Rattle.plans.specs.Runs.{InspectsFolder, status_after};
 
 use crate::paths::Paths;
-use files::{Disk, Placed};
+use files::{Disk, OnDisk};
 use printout::{Ending, PlanFile, Tables, inspect_plan};
 
 /// Inspects the plan whose files are placed on a disk. At the end, or before an error is answered,
 /// all that was printed goes out; then the refused pairs that were stored are kept.
-pub fn inspect_placed<D: Disk<PlanFile>>(
+pub fn inspect_on_disk<D: Disk<PlanFile>>(
     tables: &mut Tables,
-    plan: &mut Placed<D, Paths>,
+    plan: &mut OnDisk<D, Paths>,
 ) -> Result<Ending, D::Error>
     ensures { InspectsFolder D.does D.fails plan.old result plan.new }
 {

@@ -1,5 +1,6 @@
 -- A run over a host, file by file.
 use Rattle.std.proofs.Common.{◌≡◌, ℕ, ◌+◌, ◌≤◌, true, false, if◌then◌else◌, List, [], ◌∷◌, ◌++◌, length, take, drop, Some, None, Result, nat_lt, sym, ap, ◌∙◌, arith, append-nil, Ok, Err, IfOk, refl, replicate, subst}
+use Rattle.sheet.specs.declared.notices.Layer.TheVariants as layer
 use Rattle.std.proofs.Math.Seq.{take-append_seam, take-length}
 use Rattle.std.proofs.lemmas.Bool.{le-ltb}
 use Rattle.std.proofs.lemmas.List.Elements.{All-cons, All-nil}
@@ -7,15 +8,14 @@ use Rattle.std.proofs.lemmas.List.Sums.{sum_by-cons}
 use Rattle.hosts.specs.Events.{Event, Read, Call, files_read, asked, came, asked_by, Reading, printed, stored, unread}
 use Rattle.hosts.specs.Works.{unread_by, Ran, Prints}
 use Rattle.hosts.proofs.Histories.{not_asked, not_came}
-use Rattle.sheet.specs.Checks.{first_fit}
+use Rattle.sheet.specs.Checks.{first_fit, check}
 use Rattle.sheet.specs.Lines.{numbered}
 use Rattle.sheet.specs.Sheet.{text_limit, point_limit, face_limit, sheet_checks, draft_of, points_in, faces_in, onto_front}
 use Rattle.sheet.specs.declared.drafts.Draft.{Draft}
 use Rattle.sheet.specs.declared.rows.Point.{Point}
 use Rattle.sheet.specs.declared.rows.Face.{Face}
 use Rattle.sheet.proofs.Fronts as text_front
-use Rattle.step.specs.Faults.{place}
-use Rattle.step.specs.Laying.{check, lay_checks, rows_checks, with_ends}
+use Rattle.step.specs.Laying.{lay_checks, rows_checks, with_ends}
 use Rattle.step.specs.Limit.{record_limit}
 use Rattle.step.proofs.Fronts as record_front
 use Rattle.step.proofs.LayAnswers.{length_with_ends}
@@ -26,7 +26,7 @@ use Rattle.printout.specs.declared.endings.Ending.{Ending}
 use Rattle.printout.specs.declared.plan_files.PlanFile.{PlanFile}
 use Rattle.hosts.proofs.Fronts.{front_of}
 use Rattle.sheet.specs.declared.notices.Notice.{Notice}
-use Rattle.inspection.specs.PairBytes.{offers_in}
+use Rattle.printout.specs.PairBytes.{offerings_in}
 use Rattle.motion.specs.Rows.{delivered}
 use Rattle.printout.specs.Printouts.{notice_line}
 use Rattle.printout.specs.Progress.{◌⊕◌, told_by, LeavesUntold, TellsText, FitsFile, NotRead, HoldsSheet, HoldsPlan, plan_told, Ends, Comes, after_sheet, AfterSheet, AfterStep, RunsFromPairs, RunsFromStep}
@@ -79,9 +79,9 @@ module _ (p : Plan) (d : Draft) (ps : List Point) (fs : List Face) (h : HoldsShe
       let n = length (resting_points p) in
       let a : nat_lt (length ps) d.points ≡ false = le-ltb (length ps) d.points room in
       let b : nat_lt n n ≡ false = le-ltb n n (omega arith) in
-      ap (λ x. if x then Some (check true 13 (place 0 0)).tells else first_fit (rows_checks 0 (take d.points ps) bs)) a
+      ap (λ x. if x then Some (check true 13 layer.Step 0 0).tells else first_fit (rows_checks 0 (take d.points ps) bs)) a
       ∙ ap (λ l. first_fit (rows_checks 0 l bs)) (h.points ∙ sym (take-length (resting_points p)))
-      ∙ ap (λ x. if x then Some (check true 13 (place 0 0)).tells else first_fit (rows_checks 0 (take n (resting_points p)) bs)) (sym b)
+      ∙ ap (λ x. if x then Some (check true 13 layer.Step 0 0).tells else first_fit (rows_checks 0 (take n (resting_points p)) bs)) (sym b)
 
   pub step_fault_of : first_fit (lay_checks d.points ps bytes) ≡ step_fault p
   step_fault_of =
@@ -173,7 +173,7 @@ module _ (p : Plan) (needed_in : ℕ → List PlanFile) where
         ends = c.ends;
         told = λ g is.
             c.told g is
-            ∙ ap (λ b. refusal_lines (walked delivered (sheet p) (just_opened (draft p)) (offers_in ((if b then bytes else []) ++ came (same_file Pairs) es)))) (sym other);
+            ∙ ap (λ b. refusal_lines (walked delivered (sheet p) (just_opened (draft p)) (offerings_in ((if b then bytes else []) ++ came (same_file Pairs) es)))) (sym other);
       }
 
 module _ {S E : Type 0} (does : S → Event PlanFile → S → Type 0) (fails : S → Call PlanFile → E → S → Type 0) where

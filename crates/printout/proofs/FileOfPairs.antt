@@ -1,5 +1,6 @@
 -- The pairs of a plan's file: they are offered piece by piece, and then what is found is reported.
 use Rattle.std.proofs.Common.{◌≡◌, ℕ, ◌+◌, ◌-◌, ◌*◌, ◌/◌, ◌%◌, ◌≤◌, Bool, true, false, List, [], ◌∷◌, ◌++◌, All, length, take, drop, nat_lt, Ok, Err, Result, refl, sym, ap, ◌∙◌, subst, arith, append-nil, length-append, length-take, not, IsTrue, ◌||◌, if◌then◌else◌, replicate, Some, None, IfOk, IsFalse}
+use Rattle.sheet.specs.declared.notices.Layer.TheVariants as layer
 use Rattle.std.proofs.lemmas.Bool.{ltb-true, ltb-false, le-ltb}
 use Rattle.std.proofs.lemmas.Result.{IfOk-weaker}
 use Rattle.std.proofs.lemmas.List.{take_all, take-append-drop, replicate-append-replicate}
@@ -19,48 +20,48 @@ use Rattle.inspection.specs.declared.names.VfName.{VfName}
 use Rattle.inspection.specs.declared.names.EeName.{EeName}
 use Rattle.inspection.specs.declared.offerings.Offering.{Offering}
 use Rattle.inspection.specs.declared.offerings.Offering.TheVariants.{Faces}
-use Rattle.inspection.specs.PairBytes.{number_of, offers_in}
+use Rattle.printout.specs.PairBytes.{number_of, offerings_in}
 use Rattle.inspection.specs.Sheets.{sheet_in, Sheet}
 use Rattle.inspection.specs.States.{State, core_at_start}
 use Rattle.printout.specs.Outcomes.{same_file}
 use Rattle.printout.specs.Progress.{NotRead, Made, told_of, Tells, TellsPairs, Offers, pairs_came, PieceCame, CameTo, TellsFile, OffersFile, Listed, Begins, Reportable, only_text, nothing_told, ◌⊕◌, told_by, LeavesUntold, TellsText, TellsPieces, plan_told, Ends, Comes, FitsFile, HoldsPlan, AfterStep, RunsFromPairs}
-use Rattle.printout.specs.Walks.{Walk, offered, walked, Found, depth, places, just_opened, refusal_lines, refused_pairs}
+use Rattle.printout.specs.Walks.{Walk, offered, walked, Found, depth, room, just_opened, refusal_lines, refused_pairs}
 use Rattle.printout.specs.declared.plan_files.PlanFile.{PlanFile}
 use Rattle.printout.specs.declared.plan_files.PlanFile.TheVariants.{Pairs, Sheet as SheetFile, Step as StepFile}
 use Rattle.printout.proofs.Telling.{none_read, only_pairs, quiet, tells_then, told_assoc, told_nothing, tells_behind, never_reads, unread_untold, told_print}
-use Rattle.sheet.specs.Checks.{first_fit}
+use Rattle.sheet.specs.Checks.{first_fit, check}
 use Rattle.sheet.proofs.FirstFit.{past}
 use Rattle.motion.specs.Rows.{delivered}
-use Rattle.inspection.specs.declared.kinds.ListKind.{ListKind}
-use Rattle.inspection.specs.declared.kinds.ListKind.TheVariants.{Vf, Ee}
+use Rattle.motion.specs.declared.shapes.Kind.{Kind}
+use Rattle.motion.specs.declared.shapes.Kind.TheVariants.{Vf, Ee}
 use Rattle.inspection.specs.Claims.{Claim, Findings}
 use Rattle.inspection.specs.Lists.{Contents}
 use Rattle.inspection.specs.Offers.{lacks_rows}
 use Rattle.inspection.specs.Runs.{Accepted, Opened, opened}
 use Rattle.inspection.specs.Tests.{Naming, vf_naming, ee_naming}
 use Rattle.report.specs.Faults.{place_of}
-use Rattle.report.specs.Reports.{View, check, checks_from, entry_checks, entry_limit, list_checks, numbered, report_text}
+use Rattle.report.specs.Reports.{View, checks_from, entry_checks, entry_limit, list_checks, numbered, report_text}
 use Rattle.printout.specs.Plans.{Plan, printout, printout_by, sheet, draft, walk, report_of, ClaimOfPlan}
 use Rattle.printout.specs.declared.endings.Ending.{Ending}
 use Rattle.printout.specs.declared.endings.Ending.TheVariants.{Complete}
 use Rattle.printout.proofs.Offers.{goes_on}
 
 -- whole pairs, and then others
-offers_in-append : (n : ℕ) (xs ys : List ℕ) → length xs ≡ 4 * n → offers_in (xs ++ ys) ≡ offers_in xs ++ offers_in ys
-offers_in-append n [] ys e = refl
-offers_in-append n (a ∷ b ∷ c ∷ d ∷ xs) ys e = ap (λ os. Faces (number_of a b) (number_of c d) ∷ os) (offers_in-append (n - 1) xs ys (omega arith))
-offers_in-append n xs ys e = absurd (omega arith)
+offerings_in-append : (n : ℕ) (xs ys : List ℕ) → length xs ≡ 4 * n → offerings_in (xs ++ ys) ≡ offerings_in xs ++ offerings_in ys
+offerings_in-append n [] ys e = refl
+offerings_in-append n (a ∷ b ∷ c ∷ d ∷ xs) ys e = ap (λ os. Faces (number_of a b) (number_of c d) ∷ os) (offerings_in-append (n - 1) xs ys (omega arith))
+offerings_in-append n xs ys e = absurd (omega arith)
 
-whole_pairs : (xs ys : List ℕ) → length xs % 4 ≡ 0 → offers_in (xs ++ ys) ≡ offers_in xs ++ offers_in ys
-whole_pairs xs ys e = offers_in-append (length xs / 4) xs ys (omega arith)
+whole_pairs : (xs ys : List ℕ) → length xs % 4 ≡ 0 → offerings_in (xs ++ ys) ≡ offerings_in xs ++ offerings_in ys
+whole_pairs xs ys e = offerings_in-append (length xs / 4) xs ys (omega arith)
 
 -- the pairs that came are the first of the file's
 pub first_pairs : (b : Bool) (es : List (Event PlanFile)) (all : List ℕ) → CameTo b es → came (same_file Pairs) es ≡ take (asked (same_file Pairs) es) all
-    → (later : List Offering) × (offers_in all ≡ pairs_came es ++ later)
-first_pairs true es all whole fits = ([], ap offers_in (whole all fits) ∙ sym (append-nil (pairs_came es)))
+    → (later : List Offering) × (offerings_in all ≡ pairs_came es ++ later)
+first_pairs true es all whole fits = ([], ap offerings_in (whole all fits) ∙ sym (append-nil (pairs_came es)))
 first_pairs false es all full fits =
     let later = drop (asked (same_file Pairs) es) all in
-    (offers_in later, ap offers_in (sym (take-append-drop (asked (same_file Pairs) es) all) ∙ ap (λ l. l ++ later) (sym fits)) ∙ whole_pairs (came (same_file Pairs) es) later full.1)
+    (offerings_in later, ap offerings_in (sym (take-append-drop (asked (same_file Pairs) es) all) ∙ ap (λ l. l ++ later) (sym fits)) ∙ whole_pairs (came (same_file Pairs) es) later full.1)
 
 -- ---- of events that do not read it nothing comes
 module _ (es gs : List (Event PlanFile)) (none : NotRead Pairs gs) where
@@ -145,24 +146,24 @@ module _ {S E : Type 0} (does : S → Event PlanFile → S → Type 0) (fails : 
   -- a piece is read, and its pairs are offered
   pub piece_offered : (is_last : Bool) (s t u : State) (h i j k : S) (size : ℕ) (chunk : List ℕ) (r : Result (Unit {0}) E)
       → OffersFile {X = Unit {0}} does fails set ps fs false s t h (Ok tt) i → PieceCame does size chunk is_last i j
-      → Offers does fails set ps fs (offers_in chunk) t u j r k → OffersFile does fails set ps fs is_last s u h r k
+      → Offers does fails set ps fs (offerings_in chunk) t u j r k → OffersFile does fails set ps fs is_last s u h r k
   unfolding PieceCame Offers OffersFile
   piece_offered is_last s t u h i j k size chunk r going (did, whole, few, last) offers d w m =
       let sheet = sheet_in d ps fs in
       let a = going d w m in
       let told = a.good.0 in
       let v = walked set sheet w (pairs_came a.events) in
-      let end = walked set sheet v (offers_in chunk) in
+      let end = walked set sheet v (offerings_in chunk) in
       let read = Read Pairs size chunk ∷ [] in
       let full = subst (λ b. CameTo b a.events) a.good.1.0 told.came in
       let first = tells_then told.pieces 1 (told_of w) (told_of v) (told_of v) a.events read tt (Ok tt) told.tells (quiet 1 (told_of v) read (Ok (tt {0})) refl refl refl) in
-      ran_after does fails (TellsFile set d ps fs w is_last u) (TellsPairs set d ps fs v (offers_in chunk) u) h j k (a.events ++ read) (next (Read Pairs size chunk) a.went did)
+      ran_after does fails (TellsFile set d ps fs w is_last u) (TellsPairs set d ps fs v (offerings_in chunk) u) h j k (a.events ++ read) (next (Read Pairs size chunk) a.went did)
       (λ gs how b.
       let all = (a.events ++ read) ++ gs in
       let none = none_read Pairs gs how b.0.files in
       let on : end ≡ walked set sheet w (pairs_came all) =
-      sym (fold-append (offered set sheet) w (pairs_came a.events) (offers_in chunk))
-      ∙ ap (walked set sheet w) (sym (whole_pairs (came (same_file Pairs) a.events) chunk full.1) ∙ ap offers_in (sym (all_came a.events gs size chunk is_last full whole few last none))) in (
+      sym (fold-append (offered set sheet) w (pairs_came a.events) (offerings_in chunk))
+      ∙ ap (walked set sheet w) (sym (whole_pairs (came (same_file Pairs) a.events) chunk full.1) ∙ ap offerings_in (sym (all_came a.events gs size chunk is_last full whole few last none))) in (
         record {
           pieces = told.pieces + 1 + 0;
           tells = subst (λ y. Tells (told.pieces + 1 + 0) (told_of w) (told_of y) all how) on (tells_then (told.pieces + 1) 0 (told_of w) (told_of v) (told_of end) (a.events ++ read) gs tt how first b.0);
@@ -176,18 +177,18 @@ module _ {S E : Type 0} (does : S → Event PlanFile → S → Type 0) (fails : 
   -- a call fails while its pairs are offered
   pub piece_cut : (is_last : Bool) (s t u v : State) (h i j k : S) (size : ℕ) (chunk : List ℕ) (e : E) (r : Result (Unit {0}) E) → r ≡ Err e
       → OffersFile {X = Unit {0}} does fails set ps fs false s t h (Ok tt) i → PieceCame does size chunk is_last i j
-      → Offers {X = Unit {0}} does fails set ps fs (offers_in chunk) t u j (Err e) k → OffersFile does fails set ps fs true s v h r k
+      → Offers {X = Unit {0}} does fails set ps fs (offerings_in chunk) t u j (Err e) k → OffersFile does fails set ps fs true s v h r k
   unfolding OffersFile
   piece_cut is_last s t u v h i j k size chunk e r is going piece offers d w m =
       ran_short does fails (TellsFile set d ps fs w true v) (TellsFile set d ps fs w is_last u) h k e r is (λ es call told. told)
       (piece_offered is_last s t u h i j k size chunk (Err e) going piece offers d w m)
 
 -- ---- no check of the report fits entries that are of the sheet
-no_stray : {E : Type 0} (n : Naming E) (l : ListKind) (s : Sheet) (i : ℕ) (es : List E) → All (λ e. IsTrue (n.inside s e)) es → first_fit (checks_from n l s i es) ≡ None
+no_stray : {E : Type 0} (n : Naming E) (l : Kind) (s : Sheet) (i : ℕ) (es : List E) → All (λ e. IsTrue (n.inside s e)) es → first_fit (checks_from n l s i es) ≡ None
 no_stray n l s i [] all = refl
 no_stray n l s i (e ∷ es) all =
     let inside = All-head (λ x. IsTrue (n.inside s x)) e es all in
-    ap (λ b. if not b then Some (check (not b) 19 i (place_of l)).tells else first_fit (checks_from n l s (i + 1) es)) inside
+    ap (λ b. if not b then Some (check (not b) 19 layer.Report i (place_of l)).tells else first_fit (checks_from n l s (i + 1) es)) inside
     ∙ no_stray n l s (i + 1) es (All-tail (λ x. IsTrue (n.inside s x)) e es all)
 
 no_faults : (d : Draft) (ps : List Point) (fs : List Face) (vf : List VfName) (ee : List EeName) → IsFalse (lacks_rows d ps fs)
@@ -197,11 +198,11 @@ no_faults d ps fs vf ee rows vfs ees =
     let s = sheet_in d ps fs in
     let first = no_stray vf_naming Vf s 0 (numbered vf) (All-take (λ e. IsTrue (vf_naming.inside s e)) entry_limit vf vfs) in
     let second = no_stray ee_naming Ee s 0 (numbered ee) (All-take (λ e. IsTrue (ee_naming.inside s e)) entry_limit ee ees) in
-    sym (ap (λ b. if b then Some (check b 16 0 0).tells else first_fit (list_checks s vf ee)) rows
+    sym (ap (λ b. if b then Some (check b 16 layer.Report 0 0).tells else first_fit (list_checks s vf ee)) rows
     ∙ sym (past (entry_checks vf_naming Vf s vf) (entry_checks ee_naming Ee s ee) (sym first)) ∙ second)
 
 -- ---- an inspection that is just opened has made no step of the walk
-pub made_none : (d : Draft) (s : State) → Opened d s → s.core ≡ core_at_start d depth → length s.vf.rest ≡ places → length s.ee.rest ≡ places → Begins d s
+pub made_none : (d : Draft) (s : State) → Opened d s → s.core ≡ core_at_start d depth → length s.vf.rest ≡ room → length s.ee.rest ≡ room → Begins d s
 unfolding Begins
 made_none d s o core vf ee ps fs rows =
     let same : s.core.draft ≡ d = ap (λ c. c.draft) core in
@@ -214,7 +215,7 @@ made_none d s o core vf ee ps fs rows =
       run = opened (subst (λ k. Opened k s) (sym same) o);
     }
   where
-    empty : {E : Type 0} (n : Naming E) (sheet : Sheet) (list : Contents E) → list.entries ≡ [] → length list.rest ≡ places → Listed n sheet list
+    empty : {E : Type 0} (n : Naming E) (sheet : Sheet) (list : Contents E) → list.entries ≡ [] → length list.rest ≡ room → Listed n sheet list
     empty n sheet list none room =
         record {
           room = ap (λ es. length es + length list.rest) none ∙ omega (arith, room);
@@ -251,7 +252,7 @@ module _ (p : Plan) (d : Draft) (ps : List Point) (fs : List Face) (h : HoldsPla
       let report = only_text (report_of p (walk p).found) in
       let rest = told.tells.rest in
       let walk_on : told_of (walk p) ≡ told_by es ⊕ (rest ⊕ on.0) =
-      ap told_of (sym (same_walk (offers_in p.pairs)) ∙ ap over first.1 ∙ fold-append (offered delivered (sheet_in d ps fs)) (just_opened d) (pairs_came es) first.0)
+      ap told_of (sym (same_walk (offerings_in p.pairs)) ∙ ap over first.1 ∙ fold-append (offered delivered (sheet_in d ps fs)) (just_opened d) (pairs_came es) first.0)
       ∙ on.1 ∙ ap (λ l. l ⊕ on.0) told.tells.parts ∙ told_assoc (told_by es) rest on.0 in
       record {
         rest = rest ⊕ on.0 ⊕ report;
@@ -290,7 +291,7 @@ module _ (p : Plan) (d : Draft) (ps : List Point) (fs : List Face) (h : HoldsPla
         whole_walk =
             let none = none_read Pairs gs how quiet in
             let all = came p.pairs (sym (came_quiet es gs none) ∙ fits ∙ ap (λ n. take n p.pairs) (asked_quiet es gs none)) in
-            same_walk (pairs_came es) ∙ ap (λ bytes. walked delivered (sheet p) (just_opened (draft p)) (offers_in bytes)) (sym all)
+            same_walk (pairs_came es) ∙ ap (λ bytes. walked delivered (sheet p) (just_opened (draft p)) (offerings_in bytes)) (sym all)
 
         claim : Findings delivered t → ClaimOfPlan p
         claim found none =

@@ -1,6 +1,5 @@
 -- What a plan in memory comes to.
 use Rattle.std.proofs.Common.{◌≡◌, ◌↔◌, ℕ, List, [], None, subst}
-use Rattle.hosts.specs.Events.{Event}
 use Rattle.hosts.specs.Memory.{Remembers}
 use Rattle.hosts.specs.Pages.{Shows, Filled, NeverFails}
 use Rattle.hosts.specs.Works.{Finished}

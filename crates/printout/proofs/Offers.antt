@@ -9,7 +9,7 @@ use Rattle.inspection.proofs.Inside.{VfIn, EeIn, after_all, vf_in, ee_in}
 use Rattle.inspection.proofs.Moments.{OfferFacts, moment}
 use Rattle.std.proofs.lemmas.List.Elements.{All-head, All-tail}
 use Rattle.sheet.proofs.FirstFit.{none_parts, no_fit}
-use Rattle.sheet.specs.Checks.{first_fit, fault_notice}
+use Rattle.sheet.specs.Checks.{first_fit, fault_notice, check}
 use Rattle.sheet.specs.declared.notices.Layer.TheVariants.{Offer}
 use Rattle.sheet.specs.declared.notices.Notice.{Notice}
 use Rattle.sheet.specs.declared.drafts.Draft.{Draft}
@@ -18,11 +18,11 @@ use Rattle.sheet.specs.declared.rows.Face.{Face}
 use Rattle.motion.specs.declared.shapes.Shape.{Shape}
 use Rattle.inspection.specs.declared.faults.OfferFault.{OfferFault}
 use Rattle.inspection.specs.Classes.{rules_at}
-use Rattle.inspection.specs.Faults.{check, notice_of_offer}
-use Rattle.inspection.specs.Lists.{Contents, with_entries}
+use Rattle.inspection.specs.Faults.{notice_of_offer}
+use Rattle.inspection.specs.Lists.{Contents, grown_to}
 use Rattle.inspection.specs.declared.offerings.Offering.{Offering}
 use Rattle.inspection.specs.declared.offerings.Offering.TheVariants.{Faces}
-use Rattle.inspection.specs.Offers.{pair_checks, offer_checks, room_check, entries_by, state_after, OfferStep}
+use Rattle.inspection.specs.Offers.{pair_checks, offer_checks, room_check, entries_by, state_after, OfferCall}
 use Rattle.inspection.specs.Runs.{Run, offered as run_offered}
 use Rattle.inspection.specs.Sheets.{Sheet, sheet_in}
 use Rattle.inspection.specs.States.{State}
@@ -32,7 +32,7 @@ use Rattle.hosts.specs.Traces.{nothing}
 use Rattle.hosts.proofs.Continuing.{ran_after, ran_short}
 use Rattle.printout.specs.Printouts.{notice_line}
 use Rattle.printout.specs.Progress.{Listed, found_in, Made, Told, nothing_told, ◌⊕◌, told_of, refusal_told, Tells, Refuses, TellsPairs, Offers}
-use Rattle.printout.specs.Walks.{Walk, places, pair_bytes, is_full, refusal, found_after, vf_after, ee_after, sorted_in, offered, walked, refusal_lines, refused_pairs}
+use Rattle.printout.specs.Walks.{Walk, room, pair_bytes, is_full, refusal, found_after, vf_after, ee_after, sorted_in, offered, walked, refusal_lines, refused_pairs}
 use Rattle.printout.specs.declared.plan_files.PlanFile.{PlanFile}
 use Rattle.printout.proofs.Telling.{told_nothing, told_assoc, quiet, tells_then, tells_behind, tells_short}
 
@@ -48,9 +48,9 @@ last_of P (y ∷ ys) x all = last_of P ys x (All-tail P y (ys ++ (x ∷ [])) all
 tests_inside : (sheet : Sheet) (o : Offering) → OfSheet sheet o → All (VfIn sheet) (vf_naming.tests sheet o) × All (EeIn sheet) (ee_naming.tests sheet o)
 tests_inside sheet (Faces f g) a = (vf_in sheet f g a.first a.second a.first_corners a.second_corners, ee_in sheet f g a.first a.second a.first_corners a.second_corners)
 
--- fewer free places than new entries: more entries than places
-room : (n r m : ℕ) → n + r ≡ places → nat_lt r (m - n) ≡ nat_lt places m
-room n r m e = grind (arith, nat_tests)
+-- less room than new entries: more entries than there may be
+less_room : (n r m : ℕ) → n + r ≡ room → nat_lt r (m - n) ≡ nat_lt room m
+less_room n r m e = grind (arith, nat_tests)
 
 module _ (set : Shape → Bool) (ps : List Point) (fs : List Face) (o : Offering) (s : State) where
   abbrev here : Sheet
@@ -58,11 +58,11 @@ module _ (set : Shape → Bool) (ps : List Point) (fs : List Face) (o : Offering
 
   -- a list after an offer for which it has room
   lists_after : {E : Type 0} (n : Naming E) (list : Contents E) → let after = entries_by n set s.core.depth here o list.entries in
-      Listed n here list → All (λ e. IsTrue (n.inside here e)) (n.tests here o) → length list.entries ≤ length after → nat_lt places (length after) ≡ false → Listed n here (with_entries after list)
+      Listed n here list → All (λ e. IsTrue (n.inside here e)) (n.tests here o) → length list.entries ≤ length after → nat_lt room (length after) ≡ false → Listed n here (grown_to after list)
   lists_after n list l new more fits =
       let after = entries_by n set s.core.depth here o list.entries in
       record {
-        room = omega (arith, l.room, length-drop (length after - length list.entries) list.rest, ltb-false places (length after) fits, more);
+        room = omega (arith, l.room, length-drop (length after - length list.entries) list.rest, ltb-false room (length after) fits, more);
         inside = after_all (rules_at n set s.core.depth here) (λ e. IsTrue (n.inside here e)) list.entries (n.tests here o) l.inside new;
       }
 
@@ -73,24 +73,24 @@ module _ (set : Shape → Bool) (ps : List Point) (fs : List Face) (o : Offering
     same_refusal : first_fit (offer_checks set ps fs o s) ≡ refusal set here o (found_in s)
     same_refusal =
         let k = s.core.depth in
-        let vf = room (length s.vf.entries) (length s.vf.rest) (length (entries_by vf_naming set k here o s.vf.entries)) m.vf.room in
-        let ee = room (length s.ee.entries) (length s.ee.rest) (length (entries_by ee_naming set k here o s.ee.entries)) m.ee.room in
+        let vf = less_room (length s.vf.entries) (length s.vf.rest) (length (entries_by vf_naming set k here o s.vf.entries)) m.vf.room in
+        let ee = less_room (length s.ee.entries) (length s.ee.rest) (length (entries_by ee_naming set k here o s.ee.entries)) m.ee.room in
         let checks = pair_checks s.core.draft here o s.core.accepted in
-        ap (λ b. if b then Some (check b 16 Offer 0).tells else first_fit (checks ++ (room_check set here o s ∷ []))) m.rows
-        ∙ (λ i. first_fit (checks ++ (check (vf i || ee i) 21 Offer 0 ∷ [])))
+        ap (λ b. if b then Some (check b 16 Offer 0 0).tells else first_fit (checks ++ (room_check set here o s ∷ []))) m.rows
+        ∙ (λ i. first_fit (checks ++ (check (vf i || ee i) 21 Offer 0 0 ∷ [])))
 
     -- the walk refuses it as the inspection does
-    refuses : (r : Result (Unit {0}) OfferFault) (t : State) → OfferStep set ps fs o s r t → fault_notice notice_of_offer r ≡ refusal set sheet o w.found
+    refuses : (r : Result (Unit {0}) OfferFault) (t : State) → OfferCall set ps fs o s r t → fault_notice notice_of_offer r ≡ refusal set sheet o w.found
     refuses r t step = step.fault ∙ same_refusal ∙ (λ i. refusal set (sheet_in (m.draft i) ps fs) o (m.found i))
 
-    sorted : (r : Result (Unit {0}) OfferFault) (t : State) → OfferStep set ps fs o s r t → Made set d ps fs (sorted_in set sheet w o (fault_notice notice_of_offer r)) t
+    sorted : (r : Result (Unit {0}) OfferFault) (t : State) → OfferCall set ps fs o s r t → Made set d ps fs (sorted_in set sheet w o (fault_notice notice_of_offer r)) t
     sorted (Err e) t step =
         subst (Made set d ps fs (sorted_in set sheet w o (Some (notice_of_offer e)))) (sym step.state)
         (record { draft = m.draft; found = m.found; rows = m.rows; vf = m.vf; ee = m.ee; run = m.run })
     sorted (Ok u) t step =
-        let full = check (is_full set here o (found_in s)) 21 Offer 0 in
+        let full = check (is_full set here o (found_in s)) 21 Offer 0 0 in
         let none = none_parts (pair_checks s.core.draft here o s.core.accepted) (full ∷ []) (sym same_refusal ∙ sym step.fault) in
-        let fits = or_parts (nat_lt places (length (vf_after set here o (found_in s)))) (nat_lt places (length (ee_after set here o (found_in s)))) (no_fit full [] none.1).0 in
+        let fits = or_parts (nat_lt room (length (vf_after set here o (found_in s)))) (nat_lt room (length (ee_after set here o (found_in s)))) (no_fit full [] none.1).0 in
         let after = state_after set here o s in
         let run = run_offered ps fs o (Ok u) after m.run (λ rows. refl) (record { fault = step.fault; state = refl }) in
         let before = moment set s.core.draft here m.run in
@@ -106,7 +106,7 @@ module _ (set : Shape → Bool) (ps : List Point) (fs : List Face) (o : Offering
           run = subst (λ k. Run set s.core.draft here (w.accepted ++ (record { what = o; depth = k } ∷ [])) after) (ap (λ f. f.core.depth) m.found) run;
         })
 
-    made : (r : Result (Unit {0}) OfferFault) (t : State) → OfferStep set ps fs o s r t → Made set d ps fs (offered set sheet w o) t
+    made : (r : Result (Unit {0}) OfferFault) (t : State) → OfferCall set ps fs o s r t → Made set d ps fs (offered set sheet w o) t
     made r t step = subst (λ n. Made set d ps fs (sorted_in set sheet w o n) t) (refuses r t step) (sorted r t step)
 
 -- ---- what is told of it
@@ -135,14 +135,14 @@ module _ (set : Shape → Bool) (sheet : Sheet) where
 module _ {S E : Type 0} (does : S → Event PlanFile → S → Type 0) (fails : S → Call PlanFile → E → S → Type 0)
     (set : Shape → Bool) (ps : List Point) (fs : List Face) where
   module _ (o : Offering) (s t : State) where
-    pub offer_accepted : (h : S) → OfferStep set ps fs o s (Ok tt) t → Offers {X = Unit {0}} does fails set ps fs (o ∷ []) s t h (Ok tt) h
+    pub offer_accepted : (h : S) → OfferCall set ps fs o s (Ok tt) t → Offers {X = Unit {0}} does fails set ps fs (o ∷ []) s t h (Ok tt) h
     unfolding Offers
     offer_accepted h step d w m =
         let told = subst (λ n. Tells 0 (told_of w) (told_of (sorted_in set (sheet_in d ps fs) w o n)) [] (Ok (tt {0}))) (refuses set ps fs o s d w m (Ok tt) t step)
         (quiet 0 (told_of w) [] (Ok tt) refl refl refl) in
         record { events = []; went = nothing; good = (told, made set ps fs o s d w m (Ok tt) t step) }
 
-    pub offer_refused : (X : Type 0) (h h' : S) (e : OfferFault) (n : Notice) → OfferStep set ps fs o s (Err e) t → n ≡ notice_of_offer e → (r : Result X E)
+    pub offer_refused : (X : Type 0) (h h' : S) (e : OfferFault) (n : Notice) → OfferCall set ps fs o s (Err e) t → n ≡ notice_of_offer e → (r : Result X E)
         → Refuses does fails n o h r h' → Offers does fails set ps fs (o ∷ []) s t h r h'
     unfolding Refuses Offers
     offer_refused X h h' e n step why r work d w m =

@@ -1,3 +1,4 @@
+pub mod PairBytes
 pub mod Printouts
 pub mod Walks
 pub mod Plans

@@ -2,7 +2,7 @@
 use Rattle.std.specs.Prelude.{◌≡◌, ◌↔◌, ℕ, Bool, true, false, List, ◌++◌, None, Result}
 use Rattle.hosts.specs.Events.{Event, Call, Reading, Fits, printed, stored, files_read, came, unread}
 use Rattle.hosts.specs.Works.{Worked, IsFront}
-use Rattle.inspection.specs.PairBytes.{offers_in}
+use Rattle.printout.specs.PairBytes.{offerings_in}
 use Rattle.printout.specs.Plans.{Plan, bytes_of, fault, printout, needed, sheet, draft, ClaimOfPlan}
 use Rattle.printout.specs.Walks.{just_opened, walked, refusal_lines}
 use Rattle.motion.specs.Rows.{delivered}
@@ -41,7 +41,7 @@ module _ (p : Plan) where
     pub files : IsFront (files_read es ++ unread call) (needed p pieces)
     -- where a file could not be read, all is told of the pairs that came before
     pub told : (f : PlanFile) → call ≡ Reading f
-        → printed es ≡ refusal_lines (walked delivered (sheet p) (just_opened (draft p)) (offers_in (came (same_file Pairs) es)))
+        → printed es ≡ refusal_lines (walked delivered (sheet p) (just_opened (draft p)) (offerings_in (came (same_file Pairs) es)))
 
 -- ---- all that a run can come to
 abbrev pub Inspects : {S E : Type 0} → (S → Event PlanFile → S → Type 0)

@@ -11,7 +11,7 @@ use Rattle.step.specs.Laying.{lay_checks, with_ends}
 use Rattle.motion.specs.Rows.{delivered}
 use Rattle.inspection.specs.Claims.{Claim}
 use Rattle.inspection.specs.Sheets.{Sheet, sheet_of}
-use Rattle.inspection.specs.PairBytes.{offers_in}
+use Rattle.printout.specs.PairBytes.{offerings_in}
 use Rattle.report.specs.Reports.{View, report_text}
 use Rattle.printout.specs.Printouts.{Printout, notice_line}
 use Rattle.printout.specs.Walks.{Walk, Found, just_opened, walked, refusal_lines, refused_pairs}
@@ -63,7 +63,7 @@ fault p = or_else (sheet_fault p) (step_fault p)
 -- ---- what is printed and stored
 -- all of its pairs, offered one after another
 abbrev pub walk : Plan → Walk
-walk p = walked delivered (sheet p) (just_opened (draft p)) (offers_in p.pairs)
+walk p = walked delivered (sheet p) (just_opened (draft p)) (offerings_in p.pairs)
 
 abbrev pub report_of : Plan → Found → List ℕ
 report_of p f =

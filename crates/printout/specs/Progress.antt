@@ -16,13 +16,13 @@ use Rattle.inspection.specs.Runs.{Run}
 use Rattle.inspection.specs.Sheets.{Sheet, sheet_in}
 use Rattle.inspection.specs.States.{State}
 use Rattle.inspection.specs.Tests.{Naming, vf_naming, ee_naming}
-use Rattle.inspection.specs.PairBytes.{offers_in}
+use Rattle.printout.specs.PairBytes.{offerings_in}
 use Rattle.inspection.specs.declared.names.VfName.{VfName}
 use Rattle.inspection.specs.declared.names.EeName.{EeName}
 use Rattle.report.specs.Reports.{len_checks}
 use Rattle.printout.specs.Outcomes.{same_file}
 use Rattle.printout.specs.Printouts.{notice_line}
-use Rattle.printout.specs.Walks.{Walk, Found, places, pair_bytes, just_opened, walked, refusal_lines, refused_pairs}
+use Rattle.printout.specs.Walks.{Walk, Found, room, pair_bytes, just_opened, walked, refusal_lines, refused_pairs}
 use Rattle.printout.specs.declared.plan_files.PlanFile.{PlanFile}
 use Rattle.printout.specs.declared.plan_files.PlanFile.TheVariants.{Sheet as SheetFile, Step, Pairs}
 use Rattle.printout.specs.Plans.{Plan, draft, faces, resting_points, sheet, fault, sheet_fault, step_fault, files_after, printout, ClaimOfPlan}
@@ -30,9 +30,9 @@ use Rattle.printout.specs.declared.endings.Ending.{Ending}
 use Rattle.printout.specs.declared.endings.Ending.TheVariants.{Complete}
 
 -- ---- an inspection
--- a list has its places, and what is listed has numbers of the sheet
+-- a list has its room, and what is listed has numbers of the sheet
 pub record Listed {E : Type 0} (n : Naming E) (sheet : Sheet) (list : Contents E) : Type 0 where
-  pub room : length list.entries + length list.rest ≡ places
+  pub room : length list.entries + length list.rest ≡ room
   pub inside : All (λ e. IsTrue (n.inside sheet e)) list.entries
 
 abbrev pub found_in : State → Found
@@ -107,7 +107,7 @@ TellsText text Q es how = Tells 0 nothing_told (only_text text) es how × IfOk h
 -- ---- pairs are offered
 -- of the pairs of the plan's file, those that came
 abbrev pub pairs_came : List (Event PlanFile) → List Offering
-pairs_came es = offers_in (came (same_file Pairs) es)
+pairs_came es = offerings_in (came (same_file Pairs) es)
 
 -- that file came to its end, or so far each piece was full
 abbrev pub CameTo : Bool → List (Event PlanFile) → Type 0
@@ -182,7 +182,7 @@ pub record Comes (p : Plan) (needed_in : ℕ → List PlanFile) (es : List (Even
   pub files : needed_in pieces ≡ (files_read es ++ unread_by how) ++ later
   pub ends : IfOk how (Ends p rest later)
   pub told : (f : PlanFile) → unread_by how ≡ f ∷ []
-      → printed es ≡ refusal_lines (walked delivered (sheet p) (just_opened (draft p)) (offers_in (came (same_file Pairs) es)))
+      → printed es ≡ refusal_lines (walked delivered (sheet p) (just_opened (draft p)) (offerings_in (came (same_file Pairs) es)))
 
 -- the first bytes of a file came, as many as were asked for
 abbrev pub FitsFile : PlanFile → List ℕ → List (Event PlanFile) → Type 0

@@ -1,12 +1,11 @@
 -- Pairs of faces, offered one after another to an inspection of a sheet.
 use Rattle.std.specs.Prelude.{ℕ, Bool, ◌||◌, List, [], ◌∷◌, ◌++◌, length, nat_lt, flat_map, fold, Some, None, Option}
 use Rattle.std.specs.Int.{w16, to_le_bytes}
-use Rattle.sheet.specs.Checks.{first_fit}
+use Rattle.sheet.specs.Checks.{first_fit, check}
 use Rattle.sheet.specs.declared.drafts.Draft.{Draft}
 use Rattle.sheet.specs.declared.notices.Layer.TheVariants.{Offer}
 use Rattle.sheet.specs.declared.notices.Notice.{Notice}
 use Rattle.motion.specs.declared.shapes.Shape.{Shape}
-use Rattle.inspection.specs.Faults.{check}
 use Rattle.inspection.specs.declared.offerings.Offering.{Offering}
 use Rattle.inspection.specs.declared.offerings.Offering.TheVariants.{Faces}
 use Rattle.inspection.specs.Offers.{pair_checks, entries_by, tally_by}
@@ -23,8 +22,8 @@ abbrev pub depth : ℕ
 depth = 2
 
 -- how many entries a list may have
-abbrev pub places : ℕ
-places = 512
+abbrev pub room : ℕ
+room = 512
 
 -- the bytes that hold a pair
 abbrev pub pair_bytes : Offering → List ℕ
@@ -66,12 +65,12 @@ module _ (set : Shape → Bool) (s : Sheet) where
 
   -- a list would have more entries than it may
   abbrev pub is_full : Offering → Found → Bool
-  is_full o f = nat_lt places (length (vf_after o f)) || nat_lt places (length (ee_after o f))
+  is_full o f = nat_lt room (length (vf_after o f)) || nat_lt room (length (ee_after o f))
 
   -- why a pair is refused, if it is
   abbrev pub refusal : Offering → Found → Option Notice
   refusal o f =
-      first_fit (pair_checks f.core.draft s o f.core.accepted ++ (check (is_full o f) 21 Offer 0 ∷ []))
+      first_fit (pair_checks f.core.draft s o f.core.accepted ++ (check (is_full o f) 21 Offer 0 0 ∷ []))
 
   -- what an accepted pair leaves
   abbrev pub found_after : Offering → Found → Found

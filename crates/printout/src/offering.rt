@@ -3,15 +3,16 @@ ghost use Rattle.std.specs.Prelude.{◌≡◌, ◌≤◌, [], ◌∷◌, MatchRe
 ghost use Rattle.hosts.specs.Events.{Stored, Storing};
 ghost use Rattle.hosts.specs.Traces.{CutOff};
 ghost use Rattle.inspection.specs.States.{state_of};
-ghost use Rattle.inspection.specs.PairBytes.{offers_in};
+ghost use Rattle.printout.specs.PairBytes.{offerings_in};
 ghost use Rattle.printout.specs.Progress.{Offers, Refuses};
 ghost use Rattle.printout.specs.Walks.{pair_bytes};
 
 use crate::notices::print_notice;
+use crate::pair_bytes::pair_offerings;
 use crate::plan_files::PlanFile;
 use filters::Filter;
 use hosts::Host;
-use inspection::{EeName, Inspection, List, Offering, VfName, pair_offers};
+use inspection::{EeName, Inspection, List, Offering, VfName};
 use sheet::{Face, Notice, Point};
 
 /// Offers the pairs that some bytes hold, in their order; of each that is refused its line is
@@ -27,13 +28,13 @@ pub(crate) fn offer_pairs<F: Filter, H: Host<File = PlanFile>>(
     host: &mut H,
 ) -> Result<(), H::Error>
     ensures offers { Offers H.does H.fails (F.Filter.struck inspection.old.filter)
-        points.now faces.now (offers_in pairs.now)
+        points.now faces.now (offerings_in pairs.now)
         (state_of inspection.old vf.old ee.old) (state_of inspection.new vf.new ee.new)
         host.old result host.new }
     ensures filter { inspection.new.filter ≡ inspection.old.filter }
     ensures less { H.most host.new ≤ H.most host.old }
 {
-    for what in pair_offers(pairs) {
+    for what in pair_offerings(pairs) {
         offer_pair(inspection, points, faces, vf, ee, what, host)?;
     }
     Ok(())

@@ -8,7 +8,7 @@ ghost use Rattle.inspection.specs.Lists.{contents_of, entries, without_entries};
 ghost use Rattle.inspection.specs.States.{state_of};
 ghost use Rattle.report.specs.Reports.{view_of, report_text};
 ghost use Rattle.printout.specs.Progress.{Begins, OffersFile, PieceCame, Reportable, RunsFromPairs};
-ghost use Rattle.printout.specs.Walks.{places};
+ghost use Rattle.printout.specs.Walks.{room};
 ghost use Rattle.printout.specs.declared.endings.Ending.TheVariants.{Complete};
 ghost use Rattle.printout.specs.declared.plan_files.PlanFile.TheVariants.{Pairs};
 
@@ -26,7 +26,7 @@ use sheet::{Draft, Face, Point};
 const DEPTH: u8 = 2;
 
 /// For how many entries each list has room.
-const PLACES: usize = 512;
+const ROOM: usize = 512;
 
 /// Offers the pairs of the plan's file, a buffer at a time.
 #[tactic(auto, using(crate::proofs::FileOfPairs::begun, crate::proofs::FileOfPairs::unread_piece, crate::proofs::FileOfPairs::piece_offered, crate::proofs::FileOfPairs::piece_cut))]
@@ -94,10 +94,10 @@ pub(crate) fn inspect_pairs<H: Host<File = PlanFile>>(
     ensures { RunsFromPairs H.does H.fails draft tables.old.points tables.old.faces
         host.old result host.new }
 {
-    let mut vf_places = [VfName::default(); PLACES];
-    let mut ee_places = [EeName::default(); PLACES];
-    let mut vf = List::new(&mut vf_places);
-    let mut ee = List::new(&mut ee_places);
+    let mut vf_room = [VfName::default(); ROOM];
+    let mut ee_room = [EeName::default(); ROOM];
+    let mut vf = List::new(&mut vf_room);
+    let mut ee = List::new(&mut ee_room);
     let mut inspection = open_plan(draft, &mut vf, &mut ee);
     let points = &tables.points;
     let faces = &tables.faces;
@@ -120,8 +120,8 @@ fn open_plan(
     vf: &mut List<'_, VfName>,
     ee: &mut List<'_, EeName>,
 ) -> Inspection<Delivered>
-    requires vf { length (without_entries (contents_of vf.old)).rest ≡ places }
-    requires ee { length (without_entries (contents_of ee.old)).rest ≡ places }
+    requires vf { length (without_entries (contents_of vf.old)).rest ≡ room }
+    requires ee { length (without_entries (contents_of ee.old)).rest ≡ room }
     ensures { Begins draft (state_of result vf.new ee.new) }
 {
     let Ok(inspection) = Inspection::open(draft, delivered_filter(), DEPTH, vf, ee) else {

@@ -6,6 +6,8 @@ mod failing;
 #[cfg(test)]
 mod long;
 #[cfg(test)]
+mod pairs;
+#[cfg(test)]
 mod plans;
 #[cfg(test)]
 mod stopped;

@@ -48,8 +48,9 @@ fn record_command(rt: &HostRuntime) -> u8 {
         Ok(given) => given,
         Err(status) => return status,
     };
-    let mut places = given.places.into_iter();
-    let (Some(start), Some(end), Some(step)) = (places.next(), places.next(), places.next()) else {
+    let mut operands = given.operands.into_iter();
+    let (Some(start), Some(end), Some(step)) = (operands.next(), operands.next(), operands.next())
+    else {
         return 1;
     };
     record_frames(rt, Paths { start, end, step })

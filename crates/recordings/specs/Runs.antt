@@ -1,8 +1,8 @@
 -- A whole run over two frames.
 use Rattle.std.specs.Prelude.{ℕ, Ok, Err, Result}
 use Rattle.files.specs.Deeds.{Deed, Task}
-use Rattle.files.specs.Placed.{DoesPlaced, FailsPlaced, Runs}
-use Rattle.files.specs.declared.placed.Placed.{Placed}
+use Rattle.files.specs.OnDisk.{DoesOnDisk, FailsOnDisk, Runs}
+use Rattle.files.specs.declared.on_disk.OnDisk.{OnDisk}
 use Rattle.frames.specs.declared.frame_files.FrameFile.{FrameFile}
 use Rattle.frames.specs.declared.frame_files.Recording.{Recording}
 use Rattle.frames.specs.declared.frame_files.Recording.TheVariants.{Recorded, Faulty, Different}
@@ -12,10 +12,10 @@ use Rattle.recordings.specs.FramePaths.{path_of, step_path, lasts}
 
 abbrev pub RecordsFrames : {D E : Type 0} → (D → Deed FrameFile → D → Type 0)
     → (D → Task FrameFile → E → D → Type 0)
-    → Placed D Paths → Result Recording E → Placed D Paths → Type 0
+    → OnDisk D Paths → Result Recording E → OnDisk D Paths → Type 0
 RecordsFrames does fails s r t =
     Runs does fails lasts
-    (Records (DoesPlaced path_of step_path does) (FailsPlaced path_of step_path fails)) s r t
+    (Records (DoesOnDisk path_of step_path does) (FailsOnDisk path_of step_path fails)) s r t
 
 -- the exit status: zero where a record was stored
 abbrev pub status_after : {E : Type 0} → Result Recording E → ℕ

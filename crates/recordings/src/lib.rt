@@ -7,4 +7,4 @@ mod runs;
 
 pub use paths::Paths;
 pub use programs::record_frames;
-pub use runs::{record_placed, status};
+pub use runs::{record_on_disk, status};

@@ -1,5 +1,5 @@
 // Where the frames and the record lie.
-use files::{Last, Places};
+use files::{FilePaths, Last};
 use frames::{FrameFile, Recording};
 
 /// The paths of the two frames, and of the record.
@@ -10,7 +10,7 @@ pub struct Paths {
     pub step: String,
 }
 
-impl Places for Paths {
+impl FilePaths for Paths {
     ghost use Rattle.recordings.specs.FramePaths.{path_of, step_path, lasts};
 
     type File = FrameFile;

@@ -2,8 +2,8 @@
 ghost use Rattle.std.specs.Prelude.{◌≤◌};
 
 use crate::paths::Paths;
-use crate::runs::{record_placed, status};
-use files::{Machine, Placed, Places, place_name, tell};
+use crate::runs::{record_on_disk, status};
+use files::{FilePaths, Machine, OnDisk, site_name, tell};
 use frames::{Recording, Tables};
 
 /// Records the step between two frames: the exit status. What stops the run is told, and the frame
@@ -14,15 +14,15 @@ pub fn record_frames(rt: &HostRuntime, paths: Paths) -> u8
     let disk = match Machine::new(*rt, None) {
         Ok(disk) => disk,
         Err(failure) => {
-            tell(rt, place_name(&paths, failure.place), failure.reason);
+            tell(rt, site_name(&paths, failure.site), failure.reason);
             return 1;
         }
     };
     let mut tables = Tables::new();
-    let mut frames = Placed { disk, paths };
-    let run = record_placed(&mut tables, &mut frames);
+    let mut frames = OnDisk { disk, paths };
+    let run = record_on_disk(&mut tables, &mut frames);
     match &run {
-        Err(failure) => tell(rt, place_name(&frames.paths, failure.place), failure.reason),
+        Err(failure) => tell(rt, site_name(&frames.paths, failure.site), failure.reason),
         Ok(Recording::Faulty(file)) => tell(rt, frames.paths.path(*file), "it has a fault"),
         Ok(_) => {}
     }

@@ -3,14 +3,14 @@ ghost use Rattle.std.specs.Prelude.{◌≡◌};
 ghost use Rattle.recordings.specs.Runs.{RecordsFrames, status_after};
 
 use crate::paths::Paths;
-use files::{Disk, Placed};
+use files::{Disk, OnDisk};
 use frames::{FrameFile, Recording, Tables, record_step};
 
 /// Records the step between two frames that are placed on a disk. A record that was stored is kept
 /// before the line that tells it goes out.
-pub fn record_placed<D: Disk<FrameFile>>(
+pub fn record_on_disk<D: Disk<FrameFile>>(
     tables: &mut Tables,
-    frames: &mut Placed<D, Paths>,
+    frames: &mut OnDisk<D, Paths>,
 ) -> Result<Recording, D::Error>
     ensures { RecordsFrames D.does D.fails frames.old result frames.new }
 {

@@ -3,11 +3,11 @@ use Rattle.std.specs.Prelude.{ℕ, List, [], ◌∷◌, ◌++◌, Some, None, Op
 use Rattle.inspection.specs.declared.classes.Tally.{Tally}
 use Rattle.inspection.specs.declared.names.VfName.{VfName}
 use Rattle.inspection.specs.declared.names.EeName.{EeName}
-use Rattle.inspection.specs.declared.kinds.ListKind.{ListKind}
-use Rattle.inspection.specs.declared.kinds.ListKind.TheVariants.{Vf, Ee}
+use Rattle.motion.specs.declared.shapes.Kind.{Kind}
+use Rattle.motion.specs.declared.shapes.Kind.TheVariants.{Vf, Ee}
 
 -- the word that the lines of a list begin with
-abbrev pub word_of : ListKind → List ℕ
+abbrev pub word_of : Kind → List ℕ
 word_of Vf = codes "VF"
 word_of Ee = codes "EE"
 
@@ -16,7 +16,7 @@ abbrev pub spaced : List (List ℕ) → List ℕ
 spaced [] = []
 spaced (p ∷ ps) = (codes " " ++ p) ++ spaced ps
 
-abbrev pub line : ListKind → List (List ℕ) → List ℕ
+abbrev pub line : Kind → List (List ℕ) → List ℕ
 line l parts = (word_of l ++ spaced parts) ++ codes "\n"
 
 -- a window, which may be absent
@@ -32,7 +32,7 @@ abbrev pub ee_line : EeName → Option (ℕ × ℕ) → List ℕ
 ee_line n w = line Ee (decimal n.u ∷ decimal n.v ∷ decimal n.k ∷ decimal n.l ∷ window_parts w)
 
 -- ---- the four counts of a kind
-abbrev pub count_line : ListKind → Tally → List ℕ
+abbrev pub count_line : Kind → Tally → List ℕ
 count_line l t =
     line l
     (codes "kept" ∷ decimal t.kept ∷ codes "struck" ∷ decimal t.struck

@@ -1,6 +1,7 @@
 -- The report of an inspection: its text, and the checks of the call in their order.
 use Rattle.std.specs.Prelude.{ℕ, ◌+◌, Bool, not, List, [], ◌∷◌, ◌++◌, length, take, Option, is_none, if◌then◌else◌, nat_lt, flat_map}
-use Rattle.sheet.specs.Checks.{Check, first_fit}
+use Rattle.sheet.specs.declared.notices.Layer.TheVariants.{Report}
+use Rattle.sheet.specs.Checks.{Check, first_fit, check}
 use Rattle.sheet.specs.declared.rows.Point.{Point}
 use Rattle.sheet.specs.declared.rows.Face.{Face}
 use Rattle.sheet.specs.declared.drafts.Draft.{Draft}
@@ -15,9 +16,9 @@ use Rattle.inspection.specs.declared.names.EeName.{EeName}
 use Rattle.inspection.specs.States.{Core, core_of}
 use Rattle.inspection.specs.Tallies.{tally_in}
 use Rattle.inspection.specs.Offers.{lacks_rows}
-use Rattle.inspection.specs.declared.kinds.ListKind.{ListKind}
-use Rattle.inspection.specs.declared.kinds.ListKind.TheVariants.{Vf, Ee}
-use Rattle.report.specs.Faults.{notice_at, place_of}
+use Rattle.motion.specs.declared.shapes.Kind.{Kind}
+use Rattle.motion.specs.declared.shapes.Kind.TheVariants.{Vf, Ee}
+use Rattle.report.specs.Faults.{place_of}
 use Rattle.report.specs.Lines.{vf_line, ee_line, count_line}
 
 -- the inspection that is reported, by its filter's set, and its sheet
@@ -41,9 +42,6 @@ entry_limit = 4294967296
 abbrev pub numbered : {E : Type 0} → List E → List E
 numbered es = take entry_limit es
 
-abbrev pub check : Bool → ℕ → ℕ → ℕ → Check
-check b number first second = record { fits = b; tells = notice_at number first second }
-
 -- ---- of a list
 -- an entry, with its window at the depth now set
 abbrev pub entry_line : {E : Type 0}
@@ -51,12 +49,12 @@ abbrev pub entry_line : {E : Type 0}
 entry_line n v line e = line e (window_at v.set v.core.depth (n.shape v.sheet e))
 
 -- by what its entries name, and which list it is
-module _ {E : Type 0} (n : Naming E) (l : ListKind) where
+module _ {E : Type 0} (n : Naming E) (l : Kind) where
   -- over a sheet: of the entries from number i on
   abbrev pub checks_from : Sheet → ℕ → List E → List Check
   checks_from s i [] = []
   checks_from s i (e ∷ es) =
-      check (not (n.inside s e)) 19 i (place_of l) ∷ checks_from s (i + 1) es
+      check (not (n.inside s e)) 19 Report i (place_of l) ∷ checks_from s (i + 1) es
 
   abbrev pub entry_checks : Sheet → List E → List Check
   entry_checks s es = checks_from s 0 (numbered es)
@@ -77,11 +75,11 @@ list_checks s vf ee = entry_checks vf_naming Vf s vf ++ entry_checks ee_naming E
 -- of a call over these tables, whatever the output
 abbrev pub len_checks : Draft → List Point → List Face → List VfName → List EeName → List Check
 len_checks d ps fs vf ee =
-    check (lacks_rows d ps fs) 16 0 0 ∷ list_checks (sheet_in d ps fs) vf ee
+    check (lacks_rows d ps fs) 16 Report 0 0 ∷ list_checks (sheet_in d ps fs) vf ee
 
 -- for an output of so many bytes
 abbrev pub room_check : List ℕ → ℕ → Check
-room_check text places = check (nat_lt places (length text)) 23 0 0
+room_check text room = check (nat_lt room (length text)) 23 Report 0 0
 
 -- what is printed: nothing, where a check fits
 abbrev pub printed_unless : List Check → List ℕ → List ℕ

@@ -1,44 +1,45 @@
 // The lines of the two kinds of entries, and of their counts.
 ghost use Rattle.std.specs.Prelude.{◌≡◌, ◌+◌, ◌≤◌, ◌++◌, ℕ, List, Option, codes, decimal};
 ghost use Rattle.arrayvec.specs.ArrayString.{array_string_len};
-ghost use Rattle.inspection.specs.declared.kinds.ListKind.{ListKind};
+ghost use Rattle.motion.specs.declared.shapes.Kind.{Kind};
 ghost use Rattle.report.specs.Lines.{word_of, spaced, window_parts, vf_line, ee_line, count_line};
 
 use arrayvec::ArrayString;
-use inspection::{EeName, ListKind, Tally, TestName, VfName};
+use inspection::{EeName, Tally, TestName, VfName};
 use itoa::Buffer;
+use motion::Kind;
 
 /// A line has fewer bytes.
-pub(crate) type Line = ArrayString<96>;
+pub(crate) type ReportLine = ArrayString<96>;
 
 /// An entry that has a line in the report.
 pub(crate) trait HasLine: TestName {
     // which list it stands on
-    ghost kind: { ListKind };
+    ghost kind: { Kind };
 
     // its line, with its window
     ghost line: { Self → Option (ℕ × ℕ) → List ℕ };
 
-    fn kind() -> ListKind
+    fn kind() -> Kind
         ensures { result ≡ kind };
 
-    fn line(self, window: Option<(u8, u8)>) -> Line
+    fn line(self, window: Option<(u8, u8)>) -> ReportLine
         ensures { result.bytes ≡ line self window };
 }
 
 impl HasLine for VfName {
-    ghost use Rattle.inspection.specs.declared.kinds.ListKind.TheVariants.{Vf};
+    ghost use Rattle.motion.specs.declared.shapes.Kind.TheVariants.{Vf};
 
     ghost kind = { Vf };
 
     ghost line = { vf_line };
 
-    fn kind() -> ListKind {
-        ListKind::Vf
+    fn kind() -> Kind {
+        Kind::Vf
     }
 
-    fn line(self, window: Option<(u8, u8)>) -> Line {
-        let mut line = start(ListKind::Vf);
+    fn line(self, window: Option<(u8, u8)>) -> ReportLine {
+        let mut line = start(Kind::Vf);
         number(&mut line, u32::from(self.point));
         number(&mut line, u32::from(self.face));
         put_window(&mut line, window);
@@ -48,18 +49,18 @@ impl HasLine for VfName {
 }
 
 impl HasLine for EeName {
-    ghost use Rattle.inspection.specs.declared.kinds.ListKind.TheVariants.{Ee};
+    ghost use Rattle.motion.specs.declared.shapes.Kind.TheVariants.{Ee};
 
     ghost kind = { Ee };
 
     ghost line = { ee_line };
 
-    fn kind() -> ListKind {
-        ListKind::Ee
+    fn kind() -> Kind {
+        Kind::Ee
     }
 
-    fn line(self, window: Option<(u8, u8)>) -> Line {
-        let mut line = start(ListKind::Ee);
+    fn line(self, window: Option<(u8, u8)>) -> ReportLine {
+        let mut line = start(Kind::Ee);
         number(&mut line, u32::from(self.u));
         number(&mut line, u32::from(self.v));
         number(&mut line, u32::from(self.k));
@@ -71,7 +72,7 @@ impl HasLine for EeName {
 }
 
 /// The line of the counts of a kind.
-pub(crate) fn count_line(list: ListKind, tally: Tally) -> Line
+pub(crate) fn count_line(list: Kind, tally: Tally) -> ReportLine
     ensures { result.bytes ≡ count_line list tally }
 {
     let mut line = start(list);
@@ -88,20 +89,20 @@ pub(crate) fn count_line(list: ListKind, tally: Tally) -> Line
 }
 
 /// The word that the lines of a list begin with.
-fn start(list: ListKind) -> Line
+fn start(list: Kind) -> ReportLine
     ensures text { result.bytes ≡ word_of list }
     ensures len { array_string_len result ≡ 2 }
 {
     let mut line = ArrayString::new();
     match list {
-        ListKind::Vf => line.push_str("VF"),
-        ListKind::Ee => line.push_str("EE"),
+        Kind::Vf => line.push_str("VF"),
+        Kind::Ee => line.push_str("EE"),
     }
     line
 }
 
 /// A space and a number.
-fn number(line: &mut Line, n: u32)
+fn number(line: &mut ReportLine, n: u32)
     requires { array_string_len line.old + 11 ≤ 96 }
     ensures text { line.new.bytes ≡ line.old.bytes ++ (codes " " ++ decimal n) }
     ensures len { array_string_len line.new ≤ array_string_len line.old + 11 }
@@ -112,7 +113,7 @@ fn number(line: &mut Line, n: u32)
 }
 
 /// A window, which may be absent.
-fn put_window(line: &mut Line, window: Option<(u8, u8)>)
+fn put_window(line: &mut ReportLine, window: Option<(u8, u8)>)
     requires { array_string_len line.old + 22 ≤ 96 }
     ensures text { line.new.bytes ≡ line.old.bytes ++ spaced (window_parts window) }
     ensures len { array_string_len line.new ≤ array_string_len line.old + 22 }

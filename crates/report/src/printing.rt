@@ -11,7 +11,7 @@ ghost use Rattle.report.specs.Reports.{view_of, view_over, numbered, entry_line,
 
 use crate::checking::check_lists;
 use crate::faults::ReportFault;
-use crate::lines::{HasLine, Line, count_line};
+use crate::lines::{HasLine, ReportLine, count_line};
 use crate::numbering::numbered;
 use filters::Filter;
 use hosts::Host;
@@ -141,7 +141,7 @@ fn print_entry<F: Filter, E: HasLine, H: Host>(
 }
 
 #[tactic(auto, using(hosts::proofs::Printing::printed_at_once))]
-fn print_line<H: Host>(host: &mut H, line: &Line) -> Result<(), H::Error>
+fn print_line<H: Host>(host: &mut H, line: &ReportLine) -> Result<(), H::Error>
     ensures { Prints H.does H.fails line.now.bytes host.old result host.new }
 {
     host.print(line.as_str().as_bytes())

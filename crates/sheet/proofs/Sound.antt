@@ -6,12 +6,12 @@ use Rattle.std.specs.Prelude.{unsigned_abs}
 use Rattle.std.proofs.lemmas.List.Elements.{All-cons}
 use Rattle.std.proofs.lemmas.Int.{ints}
 use Rattle.std.proofs.lemmas.Bool.{and_parts, and_from, or_parts, not-false, ltb-true, eqb-false}
-use Rattle.sheet.specs.Checks.{first_fit}
+use Rattle.sheet.specs.Checks.{first_fit, check}
 use Rattle.sheet.specs.IsSheet.{IsResting, IsTriangle, IsSheet}
 use Rattle.sheet.specs.Lines.{Fields, Content, skipped, point, face, no_start, content_of}
 use Rattle.sheet.specs.Numerals.{value_of}
-use Rattle.sheet.specs.Sheet.{spot, check, names_point, point_named, point_checks, face_checks, content_checks, point_from, face_from, entry_from, entry_of, point_row, face_row, points_in, faces_in, counting, has_place, line_checks, lines_checks, none, point_limit, face_limit}
-use Rattle.sheet.specs.declared.counts.Counts.{Counts}
+use Rattle.sheet.specs.Sheet.{names_point, point_named, point_checks, face_checks, content_checks, point_from, face_from, element_from, element_of, point_row, face_row, points_in, faces_in, counting, has_room, line_checks, lines_checks, none, point_limit, face_limit}
+use Rattle.sheet.specs.declared.counts.RowCounts.{RowCounts}
 use Rattle.sheet.specs.declared.notices.Layer.TheVariants.{Sheet}
 use Rattle.sheet.specs.declared.rows.Point.{Point}
 use Rattle.sheet.specs.declared.rows.Face.{Face}
@@ -45,14 +45,14 @@ triangle n above points fs h e =
     }
 
 -- what lines below so many points and faces say, in such room
-record Says (room above : Counts) (ps : List Point) (fs : List Face) : Type 0 where
+record Says (room above : RowCounts) (ps : List Point) (fs : List Face) : Type 0 where
   point_count : above.points ≤ room.points → above.points + length ps ≤ room.points
   face_count : above.faces ≤ room.faces → above.faces + length fs ≤ room.faces
   resting : All IsResting ps
   triangles : (n : ℕ) → above.points + length ps ≤ n → All (IsTriangle n) fs
 
-by_content : (room above : Counts) (n : ℕ) (c : Content) (ps : List Point) (fs : List Face) → first_fit (content_checks n above.points c) ≡ None → has_place room above (entry_from c) ≡ true
-    → Says room (counting above (entry_from c)) ps fs → Says room above (point_row (entry_from c) ++ ps) (face_row (entry_from c) ++ fs)
+by_content : (room above : RowCounts) (n : ℕ) (c : Content) (ps : List Point) (fs : List Face) → first_fit (content_checks n above.points c) ≡ None → has_room room above (element_from c) ≡ true
+    → Says room (counting above (element_from c)) ps fs → Says room above (point_row (element_from c) ++ ps) (face_row (element_from c) ++ fs)
 by_content room above n skipped ps fs e r s = s
 by_content room above n no_start ps fs e r s = s
 by_content room above n (point p) ps fs e r s =
@@ -73,18 +73,18 @@ by_content room above n (face f) ps fs e r s =
 all_none : {X : Type 0} (P : X → Type 0) → All P []
 all_none P k d h = absurd (omega arith)
 
-says : (room above : Counts) (ls : List (ℕ × List ℕ)) → first_fit (lines_checks room above ls) ≡ None → Says room above (points_in ls) (faces_in ls)
+says : (room above : RowCounts) (ls : List (ℕ × List ℕ)) → first_fit (lines_checks room above ls) ≡ None → Says room above (points_in ls) (faces_in ls)
 says room above [] e =
     record { point_count = λ h. omega arith; face_count = λ h. omega arith; resting = all_none IsResting; triangles = λ n q. all_none (IsTriangle n) }
 says room above (l ∷ ls) e =
     let parts = none_parts (line_checks room above l) _ e in
     let line = none_parts (content_checks l.0 above.points (content_of l.1)) _ parts.0 in
-    let place = none_fits (check (not (has_place room above (entry_of l.1))) 7 Sheet (spot l.0 0) ∷ []) line.1 in
-    by_content room above l.0 (content_of l.1) (points_in ls) (faces_in ls) line.0 (not-false _ place.0) (says room (counting above (entry_of l.1)) ls parts.1)
+    let place = none_fits (check (not (has_room room above (element_of l.1))) 7 Sheet l.0 0 ∷ []) line.1 in
+    by_content room above l.0 (content_of l.1) (points_in ls) (faces_in ls) line.0 (not-false _ place.0) (says room (counting above (element_of l.1)) ls parts.1)
 
 -- A SHEET
 
-pub sound : (room : Counts) (ls : List (ℕ × List ℕ)) (points : List Point) (faces : List Face) → room.points ≤ point_limit → room.faces ≤ face_limit → None ≡ first_fit (lines_checks room none ls) → points ≡ points_in ls → faces ≡ faces_in ls → IsSheet points faces
+pub sound : (room : RowCounts) (ls : List (ℕ × List ℕ)) (points : List Point) (faces : List Face) → room.points ≤ point_limit → room.faces ≤ face_limit → None ≡ first_fit (lines_checks room none ls) → points ≡ points_in ls → faces ≡ faces_in ls → IsSheet points faces
 sound room ls points faces h k e p q =
     let s = says room none ls (sym e) in
     let sheet : IsSheet (points_in ls) (faces_in ls)

@@ -1,26 +1,26 @@
 -- Tables in which the row of a line is written after those above the line, and what some lines
 -- add to the counts.
 use Rattle.std.specs.Prelude.{ℕ, List, fold, slice_set}
-use Rattle.sheet.specs.Sheet.{entry_of, counting}
-use Rattle.sheet.specs.declared.counts.Counts.{Counts}
-use Rattle.sheet.specs.declared.lines.Entry.{Entry}
-use Rattle.sheet.specs.declared.lines.Entry.TheVariants as entry
+use Rattle.sheet.specs.Sheet.{element_of, counting}
+use Rattle.sheet.specs.declared.counts.RowCounts.{RowCounts}
+use Rattle.sheet.specs.declared.lines.Element.{Element}
+use Rattle.sheet.specs.declared.lines.Element.TheVariants as entry
 use Rattle.sheet.specs.declared.rows.Point.{Point}
 use Rattle.sheet.specs.declared.rows.Face.{Face}
 
 -- the largest counts that the machine's numbers hold
-abbrev pub widest : Counts
+abbrev pub widest : RowCounts
 widest = record { points = 65535; faces = 65535 }
 
-abbrev pub total : Counts → List (ℕ × List ℕ) → Counts
-total above ls = fold (λ a l. counting a (entry_of l.1)) above ls
+abbrev pub total : RowCounts → List (ℕ × List ℕ) → RowCounts
+total above ls = fold (λ a l. counting a (element_of l.1)) above ls
 
-abbrev pub with_point : Counts → Entry → List Point → List Point
+abbrev pub with_point : RowCounts → Element → List Point → List Point
 with_point above entry.Nothing ps = ps
 with_point above (entry.Point p) ps = slice_set ps above.points p
 with_point above (entry.Face f) ps = ps
 
-abbrev pub with_face : Counts → Entry → List Face → List Face
+abbrev pub with_face : RowCounts → Element → List Face → List Face
 with_face above entry.Nothing fs = fs
 with_face above (entry.Point p) fs = fs
 with_face above (entry.Face f) fs = slice_set fs above.faces f

@@ -1,45 +1,45 @@
 // How many points and faces: those above a line, or those that there is room for.
 ghost use Rattle.std.specs.Prelude.{◌≡◌, IsTrue};
 ghost use Rattle.sheet.specs.Passes.{widest};
-ghost use Rattle.sheet.specs.Sheet.{counting, has_place};
+ghost use Rattle.sheet.specs.Sheet.{counting, has_room};
 
-use crate::lines::Entry;
+use crate::lines::Element;
 
 #[derive(Clone, Copy)]
-pub(crate) struct Counts {
+pub(crate) struct RowCounts {
     pub(crate) points: u16,
     pub(crate) faces: u16,
 }
 
-impl Counts {
-    pub(crate) const NONE: Counts = Counts {
+impl RowCounts {
+    pub(crate) const NONE: RowCounts = RowCounts {
         points: 0,
         faces: 0,
     };
 
     /// Whether this is room for the row of `entry` after those of `above`.
-    pub(crate) fn has_place(self, entry: Entry, above: Counts) -> bool
-        ensures { result ≡ has_place self above entry }
+    pub(crate) fn has_room(self, entry: Element, above: RowCounts) -> bool
+        ensures { result ≡ has_room self above entry }
     {
         match entry {
-            Entry::Nothing => true,
-            Entry::Point(_) => above.points < self.points,
-            Entry::Face(_) => above.faces < self.faces,
+            Element::Nothing => true,
+            Element::Point(_) => above.points < self.points,
+            Element::Face(_) => above.faces < self.faces,
         }
     }
 
     /// These and the row of `entry`.
-    pub(crate) fn counting(self, entry: Entry) -> Counts
-        requires { IsTrue (has_place widest self entry) }
+    pub(crate) fn counting(self, entry: Element) -> RowCounts
+        requires { IsTrue (has_room widest self entry) }
         ensures { result ≡ counting self entry }
     {
         match entry {
-            Entry::Nothing => self,
-            Entry::Point(_) => Counts {
+            Element::Nothing => self,
+            Element::Point(_) => RowCounts {
                 points: self.points + 1,
                 faces: self.faces,
             },
-            Entry::Face(_) => Counts {
+            Element::Face(_) => RowCounts {
                 points: self.points,
                 faces: self.faces + 1,
             },

@@ -1,12 +1,13 @@
 // What is wrong with a text, and where. Each layer carries the fault of the one below it whole.
 ghost use Rattle.std.specs.Prelude.{◌≡◌};
-ghost use Rattle.sheet.specs.Faults.{notice_at, notice_of_field, notice_of_line, notice_of_sheet};
+ghost use Rattle.sheet.specs.Checks.{notice};
+ghost use Rattle.sheet.specs.Faults.{notice_of_field, notice_of_line, notice_of_sheet};
 ghost use Rattle.sheet.specs.declared.faults.LineFault.TheVariants.{Field};
 ghost use Rattle.sheet.specs.declared.faults.SheetFault.TheVariants.{Line};
 
 use crate::notices::{Layer, Notice};
 
-/// A place in a text: the line, counted from 1, and its field, 1 to 3, or 0 for the line as a
+/// A spot in a text: the line, counted from 1, and its field, 1 to 3, or 0 for the line as a
 /// whole.
 #[derive(Clone, Copy, Debug, PartialEq, Eq)]
 pub struct Spot {
@@ -38,8 +39,8 @@ pub enum SheetFault {
     Line(LineFault),
     /// The text has more than 65,536 bytes.
     TextTooLong,
-    /// The caller's table, or the sheet, has no place for the line's point or face.
-    NoPlace(Spot),
+    /// The caller's table, or the sheet, has no room for the line's point or face.
+    NoRoom(Spot),
 }
 
 impl From<FieldFault> for LineFault {
@@ -60,16 +61,9 @@ impl From<LineFault> for SheetFault {
 
 impl Spot {
     fn notice(self, number: u8, layer: Layer) -> Notice
-        ensures { result ≡ notice_at number layer self }
+        ensures { result ≡ notice number layer self.line self.field }
     {
-        let first = self.line;
-        let second = u32::from(self.field);
-        Notice {
-            number,
-            layer,
-            first,
-            second,
-        }
+        Notice::new(number, layer, self.line, u32::from(self.field))
     }
 }
 
@@ -107,7 +101,7 @@ impl SheetFault {
         match self {
             SheetFault::Line(fault) => fault.notice(),
             SheetFault::TextTooLong => Spot { line: 0, field: 0 }.notice(6, Layer::Sheet),
-            SheetFault::NoPlace(at) => at.notice(7, Layer::Sheet),
+            SheetFault::NoRoom(at) => at.notice(7, Layer::Sheet),
         }
     }
 }

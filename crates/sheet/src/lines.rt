@@ -5,7 +5,7 @@ ghost use Rattle.sheet.specs.Checks.{first_fit, fault_notice};
 ghost use Rattle.sheet.specs.Faults.{notice_of_line};
 ghost use Rattle.sheet.specs.Lines.{content_of, fields_of, starts_with_space};
 ghost use Rattle.sheet.specs.Numerals.{value_of};
-ghost use Rattle.sheet.specs.Sheet.{coordinate_checks, corner_checks, point_checks, face_checks, content_checks, spot, point_named, point_from, face_from, entry_of};
+ghost use Rattle.sheet.specs.Sheet.{coordinate_checks, corner_checks, point_checks, face_checks, content_checks, spot, point_named, point_from, face_from, element_of};
 ghost use Rattle.sheet.specs.declared.faults.LineFault.TheVariants.{NoSuchStart};
 
 use crate::faults::{LineFault, Spot};
@@ -15,27 +15,27 @@ use crate::splitting::Line;
 
 /// What a line says.
 #[derive(Clone, Copy)]
-pub(crate) enum Entry {
+pub(crate) enum Element {
     Nothing,
     Point(Point),
     Face(Face),
 }
 
 /// What `line` says, where `points` points stand above it.
-pub(crate) fn read_line(line: Line<'_>, points: u16) -> Result<Entry, LineFault>
+pub(crate) fn read_line(line: Line<'_>, points: u16) -> Result<Element, LineFault>
     ensures fault { let content = content_of line.entry.bytes.now in
         fault_notice notice_of_line result
         ≡ first_fit (content_checks line.entry.number points content) }
-    ensures entry { IfOk result (λ e. e ≡ entry_of line.entry.bytes.now) }
+    ensures entry { IfOk result (λ e. e ≡ element_of line.entry.bytes.now) }
 {
     let number = line.number;
     let [letter, rest @ ..] = line.bytes else {
-        return Ok(Entry::Nothing);
+        return Ok(Element::Nothing);
     };
     match *letter as char {
-        '#' => Ok(Entry::Nothing),
-        'v' => Ok(Entry::Point(read_point(after_space(rest, number)?, number)?)),
-        'f' => Ok(Entry::Face(read_face(after_space(rest, number)?, number, points)?)),
+        '#' => Ok(Element::Nothing),
+        'v' => Ok(Element::Point(read_point(after_space(rest, number)?, number)?)),
+        'f' => Ok(Element::Face(read_face(after_space(rest, number)?, number, points)?)),
         _ => Err(LineFault::NoSuchStart(Spot {
             line: number,
             field: 0,

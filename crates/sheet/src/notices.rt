@@ -1,5 +1,6 @@
 // How a fault is told: one line for every fault of every layer.
 ghost use Rattle.std.specs.Prelude.{◌≡◌, ◌+◌, ◌≤◌, ◌++◌, length, codes, decimal, Some};
+ghost use Rattle.sheet.specs.Checks.{notice};
 ghost use Rattle.arrayvec.specs.ArrayString.{array_string_len};
 ghost use Rattle.sheet.specs.Notices.{name_of, fault_line};
 
@@ -56,6 +57,18 @@ impl Layer {
 }
 
 impl Notice {
+    /// The fault with this number, of a layer, at two places.
+    pub fn new(number: u8, layer: Layer, first: u32, second: u32) -> Notice
+        ensures { result ≡ notice number layer first second }
+    {
+        Notice {
+            number,
+            layer,
+            first,
+            second,
+        }
+    }
+
     /// The line that tells the fault, without a line feed.
     pub fn line(self) -> FaultLine
         ensures { result.bytes ≡ fault_line self }

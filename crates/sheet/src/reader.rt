@@ -7,12 +7,12 @@ ghost use Rattle.sheet.specs.IsSheet.{IsSheet};
 ghost use Rattle.sheet.specs.Lines.{numbered};
 ghost use Rattle.sheet.specs.Numbered.{line_read};
 ghost use Rattle.sheet.specs.Passes.{total, with_point, with_face};
-ghost use Rattle.sheet.specs.Sheet.{text_limit, none, line_checks, lines_checks, sheet_checks, has_place, entry_of, points_in, faces_in, draft_of, onto_front};
+ghost use Rattle.sheet.specs.Sheet.{text_limit, none, line_checks, lines_checks, sheet_checks, has_room, element_of, points_in, faces_in, draft_of, onto_front};
 
-use crate::counts::Counts;
+use crate::counts::RowCounts;
 use crate::drafts::Draft;
 use crate::faults::{SheetFault, Spot};
-use crate::lines::{Entry, read_line};
+use crate::lines::{Element, read_line};
 use crate::rows::{FACE_LIMIT, Face, POINT_LIMIT, Point};
 use crate::splitting::{Line, lines_in};
 
@@ -41,11 +41,11 @@ pub fn read_sheet(
     if text.len() > TEXT_LIMIT {
         return Err(SheetFault::TextTooLong);
     }
-    let point_places = points.len().min(POINT_LIMIT as usize);
-    let face_places = faces.len().min(FACE_LIMIT as usize);
-    let room = Counts {
-        points: point_places as u16,
-        faces: face_places as u16,
+    let point_room = points.len().min(POINT_LIMIT as usize);
+    let face_room = faces.len().min(FACE_LIMIT as usize);
+    let room = RowCounts {
+        points: point_room as u16,
+        faces: face_room as u16,
     };
     let counts = survey(text, room)?;
     fill(text, room, points, faces);
@@ -53,13 +53,13 @@ pub fn read_sheet(
 }
 
 /// The counts of the sheet that `text` writes, or its first fault.
-fn survey(text: &[u8], room: Counts) -> Result<Counts, SheetFault>
+fn survey(text: &[u8], room: RowCounts) -> Result<RowCounts, SheetFault>
     requires { length text.now ≤ text_limit }
     ensures fault { fault_notice notice_of_sheet result
         ≡ first_fit (lines_checks room none (numbered text.now)) }
     ensures counts { IfOk result (λ c. c ≡ total none (numbered text.now)) }
 {
-    let mut above = Counts::NONE;
+    let mut above = RowCounts::NONE;
     for line in lines_in(text) {
         let entry = admit(line, above, room)?;
         above = above.counting(entry);
@@ -68,15 +68,15 @@ fn survey(text: &[u8], room: Counts) -> Result<Counts, SheetFault>
 }
 
 /// Writes the rows of the sheet that `text` writes, of which the survey has found no fault.
-fn fill(text: &[u8], room: Counts, points: &mut [Point], faces: &mut [Face])
+fn fill(text: &[u8], room: RowCounts, points: &mut [Point], faces: &mut [Face])
     requires short { length text.now ≤ text_limit }
-    requires point_places { room.points ≤ length points.old }
-    requires face_places { room.faces ≤ length faces.old }
+    requires point_room { room.points ≤ length points.old }
+    requires face_room { room.faces ≤ length faces.old }
     requires good { first_fit (lines_checks room none (numbered text.now)) ≡ None }
     ensures points { points.new ≡ onto_front (points_in (numbered text.now)) points.old }
     ensures faces { faces.new ≡ onto_front (faces_in (numbered text.now)) faces.old }
 {
-    let mut above = Counts::NONE;
+    let mut above = RowCounts::NONE;
     for line in lines_in(text) {
         let Ok(entry) = admit(line, above, room) else {
             unreachable()
@@ -87,15 +87,15 @@ fn fill(text: &[u8], room: Counts, points: &mut [Point], faces: &mut [Face])
 }
 
 /// What `line` says, below `above`, if it has no fault and there is room for its row.
-fn admit(line: Line<'_>, above: Counts, room: Counts) -> Result<Entry, SheetFault>
+fn admit(line: Line<'_>, above: RowCounts, room: RowCounts) -> Result<Element, SheetFault>
     ensures fault { fault_notice notice_of_sheet result
         ≡ first_fit (line_checks room above (line_read line.entry)) }
-    ensures entry { IfOk result (λ e. e ≡ entry_of line.entry.bytes.now) }
-    ensures place { IfOk result (λ e. IsTrue (has_place room above e)) }
+    ensures entry { IfOk result (λ e. e ≡ element_of line.entry.bytes.now) }
+    ensures room { IfOk result (λ e. IsTrue (has_room room above e)) }
 {
     let entry = read_line(line, above.points)?;
-    if !room.has_place(entry, above) {
-        return Err(SheetFault::NoPlace(Spot {
+    if !room.has_room(entry, above) {
+        return Err(SheetFault::NoRoom(Spot {
             line: line.number,
             field: 0,
         }));
@@ -104,15 +104,15 @@ fn admit(line: Line<'_>, above: Counts, room: Counts) -> Result<Entry, SheetFaul
 }
 
 /// Writes the row of `entry` into its table, after those of `above`.
-fn store(entry: Entry, above: Counts, points: &mut [Point], faces: &mut [Face])
+fn store(entry: Element, above: RowCounts, points: &mut [Point], faces: &mut [Face])
     requires { IsTrue
-        (has_place (record { points = length points.old; faces = length faces.old }) above entry) }
+        (has_room (record { points = length points.old; faces = length faces.old }) above entry) }
     ensures points { points.new ≡ with_point above entry points.old }
     ensures faces { faces.new ≡ with_face above entry faces.old }
 {
     match entry {
-        Entry::Nothing => {}
-        Entry::Point(point) => points[above.points as usize] = point,
-        Entry::Face(face) => faces[above.faces as usize] = face,
+        Element::Nothing => {}
+        Element::Point(point) => points[above.points as usize] = point,
+        Element::Face(face) => faces[above.faces as usize] = face,
     }
 }

@@ -4,11 +4,11 @@ use lib.Signed.{le_z}
 use Rattle.std.proofs.lemmas.Int.{ints, to_z-of_z, of_z-to_z}
 use Rattle.std.proofs.lemmas.Bool.{cond-false, eqb-true, ltb-false, le-ltb, and_parts, not-false, not_from_true}
 use Rattle.sheet.specs.Checks.{first_fit}
-use Rattle.sheet.specs.Counted.{least, greatest, in_range}
+use Rattle.sheet.specs.Counted.{lower_bound, upper_bound, in_range}
 use Rattle.sheet.proofs.FirstFit.{fits_none, none_fits}
 use Rattle.step.specs.Laying.{move_in, field_checks, end_in, after_field}
 use Rattle.step.specs.Record.{word, is_zero, field_of}
-use Rattle.step.specs.declared.faults.At.{At}
+use Rattle.step.specs.declared.faults.Spot.{Spot}
 
 -- every number of a list is a byte
 abbrev pub Bytes : List ℕ → Type 0
@@ -16,8 +16,8 @@ Bytes bs = (k : ℕ) → get_or bs k 0 < 256
 
 move_fits : (s e : ℤ) → in_range s ≡ true → in_range e ≡ true → SFits w16 (e -ℤ s)
 move_fits s e p q =
-    let a = and_parts (le_z least s) (le_z s greatest) p in
-    let b = and_parts (le_z least e) (le_z e greatest) q in
+    let a = and_parts (le_z lower_bound s) (le_z s upper_bound) p in
+    let b = and_parts (le_z lower_bound e) (le_z e upper_bound) q in
     omega (arith, ints)
 
 move_back : (z : ℤ) (r : List ℕ) → SFits w16 z → move_in (word z % 256 ∷ (word z / 256 % 256 ∷ r)) ≡ z
@@ -31,13 +31,13 @@ move_back z r f =
 zero_move : (s e : ℤ) → SFits w16 (e -ℤ s) → word (e -ℤ s) ≡ 0 → s ≡ e
 zero_move s e f h = let k : e -ℤ s ≡ pos 0 = sym (to_z-of_z w16 (e -ℤ s) f) ∙ ap (to_z w16) h in omega (arith, ints)
 
-pub record ReadBack (a : At) (stands : Bool) (s e : ℤ) (bs r : List ℕ) : Type 0 where
+pub record ReadBack (a : Spot) (stands : Bool) (s e : ℤ) (bs r : List ℕ) : Type 0 where
   pub good : first_fit (field_checks a stands s bs) ≡ None
   pub end : end_in stands s bs ≡ e
   pub rest : after_field stands bs ≡ r
 
 -- a field read where it stands in the record
-pub field_back : (a : At) (stands : Bool) (s e : ℤ) (xs r : List ℕ) → in_range s ≡ true → in_range e ≡ true
+pub field_back : (a : Spot) (stands : Bool) (s e : ℤ) (xs r : List ℕ) → in_range s ≡ true → in_range e ≡ true
     → stands ≡ not (is_zero (e -ℤ s)) → xs ≡ field_of (e -ℤ s) ++ r → ReadBack a stands s e xs r
 field_back a stands s e xs r p q same bytes = rw (same, bytes) (by_zero (is_zero (e -ℤ s)) refl (move_fits s e p q))
   where
@@ -73,7 +73,7 @@ two_or_more [] B l z = absurd (omega arith)
 two_or_more (x ∷ []) B l z = absurd (omega arith)
 two_or_more (x ∷ (y ∷ r)) B l z = spelt x y r (B 0) (B 1) z
 
-pub field_only : (a : At) (stands : Bool) (s : ℤ) (bs : List ℕ) → Bytes bs → in_range s ≡ true → first_fit (field_checks a stands s bs) ≡ None → WrittenSo stands s bs
+pub field_only : (a : Spot) (stands : Bool) (s : ℤ) (bs : List ℕ) → Bytes bs → in_range s ≡ true → first_fit (field_checks a stands s bs) ≡ None → WrittenSo stands s bs
 field_only a false s bs B p g =
     let none : s -ℤ s ≡ pos 0 = omega (arith, ints) in
     record { ranges = p; bit = ap is_zero none; bytes = ap (λ v. field_of v ++ bs) none }

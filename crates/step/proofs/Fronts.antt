@@ -1,17 +1,17 @@
 -- The front of a record that is too long decides as the whole does.
 use Rattle.std.proofs.Common.{◌≡◌, ℕ, ◌+◌, ◌-◌, ◌*◌, ◌<◌, ◌≤◌, ℤ, ◌+ℤ◌, Bool, true, false, not, if◌then◌else◌, ltb, List, [], ◌∷◌, ◌++◌, length, take, drop, slice_index, Some, None, nat_lt, ◌==◌, refl, sym, ap, ◌∙◌, subst, arith, length-take, length-drop}
+use Rattle.sheet.specs.declared.notices.Layer.TheVariants.{Step}
 use Rattle.std.proofs.lemmas.List.{take_all, get_or-take, drop-take}
 use Rattle.std.proofs.lemmas.Bool.Decides.{nat_tests}
 use Rattle.std.proofs.lemmas.Bool.{eqb-true, not-false}
 use Rattle.std.specs.Option.{option_or}
-use Rattle.sheet.specs.Checks.{first_fit}
+use Rattle.sheet.specs.Checks.{first_fit, check}
 use Rattle.sheet.specs.Counted.{counted, in_range}
 use Rattle.sheet.specs.declared.rows.Point.{Point}
 use Rattle.sheet.proofs.FirstFit.{first_fit_append, no_fit, none_parts}
-use Rattle.step.specs.Faults.{place}
-use Rattle.step.specs.Laying.{check, move_in, field_checks, after_field, bit_stands, after_x, after_y, after_fields, fields_checks, map_in, row_checks, after_row, rows_checks, lay_checks}
+use Rattle.step.specs.Laying.{move_in, field_checks, after_field, bit_stands, after_x, after_y, after_fields, fields_checks, map_in, row_checks, after_row, rows_checks, lay_checks, spot}
 use Rattle.step.specs.Record.{is_zero}
-use Rattle.step.specs.declared.faults.At.{At}
+use Rattle.step.specs.declared.faults.Spot.{Spot}
 
 -- ys is a front of xs, of n bytes or more where xs has so many
 record Front (n : ℕ) (ys xs : List ℕ) : Type 0 where
@@ -21,9 +21,9 @@ record Front (n : ℕ) (ys xs : List ℕ) : Type 0 where
 
 -- ---- a field looks at two bytes, and takes them if its bit stands
 module _ (n : ℕ) {ys xs : List ℕ} (f : Front (n + 2) ys xs) where
-  field_front : (a : At) (stands : Bool) (s : ℤ) → field_checks a stands s ys ≡ field_checks a stands s xs
+  field_front : (a : Spot) (stands : Bool) (s : ℤ) → field_checks a stands s ys ≡ field_checks a stands s xs
   field_front a false s = refl
-  field_front a true s = λ i. check (short i) 8 a ∷ (check (is_zero (move_in (low i ∷ high i ∷ []))) 10 a ∷ (check (not (in_range (s +ℤ move_in (low i ∷ high i ∷ [])))) 11 a ∷ []))
+  field_front a true s = λ i. check (short i) 8 Step a.point a.field ∷ (check (is_zero (move_in (low i ∷ high i ∷ []))) 10 Step a.point a.field ∷ (check (not (in_range (s +ℤ move_in (low i ∷ high i ∷ [])))) 11 Step a.point a.field ∷ []))
     where
       short : ltb (length ys) 2 ≡ ltb (length xs) 2
       short = ap (λ l. ltb (length l) 2) f.is ∙ (let l = length-take f.size xs in grind (arith, nat_tests))
@@ -62,11 +62,11 @@ module _ (n : ℕ) {ys bs : List ℕ} (f : Front (n + 8) ys bs) where
   row_front : (i : ℕ) (p : Point) → row_checks i p ys ≡ row_checks i p bs
   row_front i p =
       let s = counted p.start in
-      let fx = field_front (n + 1 + 2 + 2) fields (place i 1) (bit_stands (map_in bs) 1) s.x in
-      let fy = field_front (n + 1 + 2) behind_x (place i 2) (bit_stands (map_in bs) 2) s.y in
-      let fz = field_front (n + 1) behind_y (place i 3) (bit_stands (map_in bs) 4) s.z in
-      (λ j. check (empty j) 8 (place i 0) ∷ (check (nat_lt 7 (map j)) 9 (place i 0) ∷ fields_checks (map j) i s (drop 1 ys)))
-      ∙ (λ j. check (length bs == 0) 8 (place i 0) ∷ (check (nat_lt 7 (map_in bs)) 9 (place i 0) ∷ (fx j ++ (fy j ++ fz j))))
+      let fx = field_front (n + 1 + 2 + 2) fields (spot i 1) (bit_stands (map_in bs) 1) s.x in
+      let fy = field_front (n + 1 + 2) behind_x (spot i 2) (bit_stands (map_in bs) 2) s.y in
+      let fz = field_front (n + 1) behind_y (spot i 3) (bit_stands (map_in bs) 4) s.z in
+      (λ j. check (empty j) 8 Step i 0 ∷ (check (nat_lt 7 (map j)) 9 Step i 0 ∷ fields_checks (map j) i s (drop 1 ys)))
+      ∙ (λ j. check (length bs == 0) 8 Step i 0 ∷ (check (nat_lt 7 (map_in bs)) 9 Step i 0 ∷ (fx j ++ (fy j ++ fz j))))
     where
       empty : (length ys == 0) ≡ (length bs == 0)
       empty = ap (λ l. length l == 0) f.is ∙ (let l = length-take f.size bs in grind (arith, nat_tests))
@@ -86,7 +86,7 @@ row_length bs =
 -- ---- rows, so many bytes after which no more can be needed
 rows_front : (i : ℕ) (ps : List Point) (ys bs : List ℕ) → Front (7 * length ps + 1) ys bs → first_fit (rows_checks i ps ys) ≡ first_fit (rows_checks i ps bs)
 rows_front i [] ys bs f =
-    ap (λ l. first_fit (check (not (length l == 0)) 12 (place 0 0) ∷ [])) f.is ∙ ap (λ b. first_fit (check (not b) 12 (place 0 0) ∷ [])) (let l = length-take f.size bs in grind (arith, nat_tests))
+    ap (λ l. first_fit (check (not (length l == 0)) 12 Step 0 0 ∷ [])) f.is ∙ ap (λ b. first_fit (check (not b) 12 Step 0 0 ∷ [])) (let l = length-take f.size bs in grind (arith, nat_tests))
 rows_front i (p ∷ ps) ys bs f =
     let g : Front (7 * length ps + 8) ys bs = record { size = f.size; enough = omega arith; is = f.is } in
     let row = row_front (7 * length ps) g i p in
@@ -97,7 +97,7 @@ rows_front i (p ∷ ps) ys bs f =
 
 rows_length : (i : ℕ) (ps : List Point) (bs : List ℕ) → first_fit (rows_checks i ps bs) ≡ None → length bs ≤ 7 * length ps
 rows_length i [] bs e =
-    let none = no_fit (check (not (length bs == 0)) 12 (place 0 0)) [] e in
+    let none = no_fit (check (not (length bs == 0)) 12 Step 0 0) [] e in
     let zero : length bs ≡ 0 = eqb-true (length bs) 0 (not-false (length bs == 0) none.0) in
     omega (arith, zero)
 rows_length i (p ∷ ps) bs e =
@@ -110,13 +110,13 @@ rows_length i (p ∷ ps) bs e =
 module _ (n : ℕ) (ps : List Point) (k : ℕ) (bs : List ℕ) (enough : 7 * n < k) where
   pub front_decides : first_fit (lay_checks n ps (take k bs)) ≡ first_fit (lay_checks n ps bs)
   front_decides =
-      ap (λ o. if nat_lt (length ps) n then Some (check true 13 (place 0 0)).tells else o) (rows_front 0 (take n ps) (take k bs) bs front)
+      ap (λ o. if nat_lt (length ps) n then Some (check true 13 Step 0 0).tells else o) (rows_front 0 (take n ps) (take k bs) bs front)
     where
       front : Front (7 * length (take n ps) + 1) (take k bs) bs
       front = record { size = k; enough = omega (arith, length-take n ps, enough); is = refl }
 
   pub front_is_whole : first_fit (lay_checks n ps bs) ≡ None → take k bs ≡ bs
   front_is_whole none =
-      let rest = no_fit (check (nat_lt (length ps) n) 13 (place 0 0)) (rows_checks 0 (take n ps) bs) none in
+      let rest = no_fit (check (nat_lt (length ps) n) 13 Step 0 0) (rows_checks 0 (take n ps) bs) none in
       let h = rows_length 0 (take n ps) bs rest.1 in
       take_all k bs (omega (arith, h, length-take n ps, enough))

@@ -1,13 +1,14 @@
 -- Laying a record onto the first rows of a table.
 use Rattle.std.proofs.Common.{◌≡◌, ℕ, ◌≤◌, true, cond, ltb, List, [], ◌∷◌, length, take, drop, is_ok, IfOk, None, Ok, Err, Result, sym, refl, ap, ◌∙◌, subst, arith}
+use Rattle.sheet.specs.declared.notices.Layer.TheVariants as layer
 use Rattle.std.proofs.lemmas.List.{take_at, length-take-le}
 use Rattle.std.proofs.lemmas.Bool.{le-ltb, ltb-false}
-use Rattle.sheet.specs.Checks.{first_fit, fault_notice}
+use Rattle.sheet.specs.Checks.{first_fit, fault_notice, check}
 use Rattle.sheet.specs.Sheet.{onto_front}
 use Rattle.sheet.specs.declared.rows.Point.{Point}
 use Rattle.sheet.proofs.FirstFit.{no_fit}
-use Rattle.step.specs.Faults.{place, notice_of_step}
-use Rattle.step.specs.Laying.{check, after_row, rows_checks, with_ends, lay_checks}
+use Rattle.step.specs.Faults.{notice_of_step}
+use Rattle.step.specs.Laying.{after_row, rows_checks, with_ends, lay_checks}
 use Rattle.step.specs.Steps.{Step}
 use Rattle.step.specs.declared.faults.StepFault.{StepFault}
 use Rattle.step.proofs.FieldLaws.{Bytes}
@@ -25,7 +26,7 @@ front_of n points after bs h e =
 -- only what the writer makes is accepted
 pub lay_only : (r : Result (Unit {0}) StepFault) (n : ℕ) (points after : List Point) (bs : List ℕ) → Bytes bs → fault_notice notice_of_step r ≡ first_fit (lay_checks n points bs) → after ≡ cond (is_ok r) (onto_front (with_ends (take n points) bs) points) points → IfOk r (λ _. Step (take n points) bs (take n after))
 lay_only (Ok x) n points after bs B a t =
-    let c = no_fit (check (ltb (length points) n) 13 (place 0 0)) (rows_checks 0 (take n points) bs) (sym a) in
+    let c = no_fit (check (ltb (length points) n) 13 layer.Step 0 0) (rows_checks 0 (take n points) bs) (sym a) in
     subst (Step (take n points) bs) (sym (front_of n points after bs (ltb-false (length points) n c.0) t)) (rows_only 0 (take n points) bs B c.1)
 lay_only (Err e) n points after bs B a t = tt
 

@@ -1,21 +1,21 @@
 -- A whole record: what is written reads back, and only what is written is read.
 use Rattle.std.proofs.Common.{◌≡◌, ℕ, ◌+◌, true, false, not, eqb, List, [], ◌∷◌, ◌++◌, length, ◌-ℤ◌, None, sym, refl, ap, ◌∙◌, subst}
+use Rattle.sheet.specs.declared.notices.Layer.TheVariants as layer
 use Rattle.std.proofs.lemmas.List.{nil_from_length}
 use Rattle.std.proofs.lemmas.Bool.{and_parts, eqb-true, not-false}
-use Rattle.sheet.specs.Checks.{first_fit}
+use Rattle.sheet.specs.Checks.{first_fit, check}
 use Rattle.sheet.specs.Counted.{in_range, coordinate_of, counted, within}
 use Rattle.sheet.specs.declared.rows.Point.{Point}
 use Rattle.sheet.proofs.FirstFit.{no_fit, none_parts}
-use Rattle.step.specs.Faults.{place}
-use Rattle.step.specs.Laying.{check, row_checks, end_of, after_row, with_end, rows_checks, with_ends}
+use Rattle.step.specs.Laying.{row_checks, end_of, after_row, with_end, rows_checks, with_ends}
 use Rattle.step.specs.Record.{moves_of, moves_record, point_record, record_of}
 use Rattle.step.specs.Steps.{Ends, Step, as_counted}
 use Rattle.step.proofs.FieldLaws.{Bytes}
 use Rattle.step.proofs.CountedLaws.{coordinate_of_same, coordinate_of_within, counted_within}
-use Rattle.step.proofs.RowLaws.{apart, none_append, RowBack, row_back, row_only}
+use Rattle.step.proofs.RowLaws.{distance, none_append, RowBack, row_back, row_only}
 
 -- the moves of a row whose end is in range
-moves_are : (p q : Point) → q.start ≡ p.start → within q.end ≡ true → moves_of q ≡ apart (counted p.start) q.end
+moves_are : (p q : Point) → q.start ≡ p.start → within q.end ≡ true → moves_of q ≡ distance (counted p.start) q.end
 moves_are p q e w =
     let x = and_parts (in_range q.end.x) _ w in
     let y = and_parts (in_range q.end.y) (in_range q.end.z) x.1 in
@@ -49,7 +49,7 @@ no_more : (bs : List ℕ) → not (eqb (length bs) 0) ≡ false → [] ≡ bs
 no_more bs e = sym (nil_from_length bs (eqb-true (length bs) 0 (not-false _ e)))
 
 pub rows_only : (i : ℕ) (ps : List Point) (bs : List ℕ) → Bytes bs → first_fit (rows_checks i ps bs) ≡ None → Step ps bs (with_ends ps bs)
-rows_only i [] bs B g = (tt, no_more bs (no_fit (check (not (eqb (length bs) 0)) 12 (place 0 0)) [] g).0)
+rows_only i [] bs B g = (tt, no_more bs (no_fit (check (not (eqb (length bs) 0)) 12 layer.Step 0 0) [] g).0)
 rows_only i (p ∷ ps) bs B g =
     let q = with_end p bs in
     let parts = none_parts (row_checks i p bs) (rows_checks (i + 1) ps (after_row bs)) g in
@@ -57,7 +57,7 @@ rows_only i (p ∷ ps) bs B g =
     let more = rows_only (i + 1) ps (after_row bs) o.rest parts.1 in (
       (refl, o.ranges, more.0),
       ap (λ m. moves_record m ++ record_of (with_ends ps (after_row bs))) (moves_are p q refl o.ranges)
-          ∙ ap (λ r. moves_record (apart (counted p.start) (end_of p bs)) ++ r) more.1
+          ∙ ap (λ r. moves_record (distance (counted p.start) (end_of p bs)) ++ r) more.1
           ∙ o.bytes,
     )
 

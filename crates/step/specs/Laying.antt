@@ -1,19 +1,18 @@
--- Laying a record onto points: the checks at each place of it, and the ends that it gives.
+-- Laying a record onto points: the checks at each spot of it, and the ends that it gives.
 use Rattle.std.specs.Prelude.{ℕ, ◌+◌, ◌*◌, ◌/◌, ◌%◌, Bool, not, if◌then◌else◌, List, [], ◌∷◌, ◌++◌, length, take, drop, ℤ, ◌+ℤ◌, ◌==◌, nat_lt, slice_index}
 use Rattle.std.proofs.Common.{to_z}
 use Rattle.std.specs.Int.{w16}
-use Rattle.sheet.specs.Checks.{Check}
+use Rattle.sheet.specs.Checks.{Check, check}
 use Rattle.sheet.specs.Counted.{counted, in_range}
 use Rattle.sheet.specs.declared.notices.Layer.TheVariants.{Step}
 use Rattle.sheet.specs.declared.rows.Coords.{Coords}
 use Rattle.sheet.specs.declared.rows.Point.{Point}
-use Rattle.step.specs.Faults.{place, notice_at}
 use Rattle.step.specs.Record.{is_zero}
-use Rattle.step.specs.declared.faults.At.{At}
+use Rattle.step.specs.declared.faults.Spot.{Spot}
 
--- the row `number` of the fault table, which fits at a where b holds
-abbrev pub check : Bool → ℕ → At → Check
-check b number a = record { fits = b; tells = notice_at number Step a }
+-- field k of point i; field 0 is the map
+abbrev pub spot : ℕ → ℕ → Spot
+spot i k = record { point = i; field = k }
 
 -- A FIELD
 
@@ -22,12 +21,12 @@ abbrev pub move_in : List ℕ → ℤ
 move_in bs = to_z w16 (slice_index bs 0 + slice_index bs 1 * 256)
 
 -- the checks of a field whose bit stands, or of one that is not there; s is the start as it counts
-abbrev pub field_checks : At → Bool → ℤ → List ℕ → List Check
+abbrev pub field_checks : Spot → Bool → ℤ → List ℕ → List Check
 field_checks a stands s bs =
     if stands then
-    check (nat_lt (length bs) 2) 8 a
-    ∷ (check (is_zero (move_in bs)) 10 a
-    ∷ (check (not (in_range (s +ℤ move_in bs))) 11 a
+    check (nat_lt (length bs) 2) 8 Step a.point a.field
+    ∷ (check (is_zero (move_in bs)) 10 Step a.point a.field
+    ∷ (check (not (in_range (s +ℤ move_in bs))) 11 Step a.point a.field
     ∷ []))
     else []
 
@@ -59,9 +58,9 @@ module _ (m : ℕ) where
   -- the checks of the fields of point i, which counts to start at s
   abbrev pub fields_checks : ℕ → Coords → List ℕ → List Check
   fields_checks i s xs =
-      field_checks (place i 1) (bit_stands m 1) s.x xs
-      ++ (field_checks (place i 2) (bit_stands m 2) s.y (after_x xs)
-      ++ field_checks (place i 3) (bit_stands m 4) s.z (after_y xs))
+      field_checks (spot i 1) (bit_stands m 1) s.x xs
+      ++ (field_checks (spot i 2) (bit_stands m 2) s.y (after_x xs)
+      ++ field_checks (spot i 3) (bit_stands m 4) s.z (after_y xs))
 
   -- the end that they give
   abbrev pub ends_of : Coords → List ℕ → Coords
@@ -81,8 +80,8 @@ map_in bs = slice_index bs 0
 
 abbrev pub row_checks : ℕ → Point → List ℕ → List Check
 row_checks i p bs =
-    check (length bs == 0) 8 (place i 0)
-    ∷ (check (nat_lt 7 (map_in bs)) 9 (place i 0)
+    check (length bs == 0) 8 Step i 0
+    ∷ (check (nat_lt 7 (map_in bs)) 9 Step i 0
     ∷ fields_checks (map_in bs) i (counted p.start) (drop 1 bs))
 
 abbrev pub end_of : Point → List ℕ → Coords
@@ -99,7 +98,7 @@ with_end p bs = record { start = p.start; end = end_of p bs }
 
 -- the checks of rows from point i on: no byte follows the last
 abbrev pub rows_checks : ℕ → List Point → List ℕ → List Check
-rows_checks i [] bs = check (not (length bs == 0)) 12 (place 0 0) ∷ []
+rows_checks i [] bs = check (not (length bs == 0)) 12 Step 0 0 ∷ []
 rows_checks i (p ∷ ps) bs = row_checks i p bs ++ rows_checks (i + 1) ps (after_row bs)
 
 abbrev pub with_ends : List Point → List ℕ → List Point
@@ -109,4 +108,4 @@ with_ends (p ∷ ps) bs = with_end p bs ∷ with_ends ps (after_row bs)
 -- all checks of a record, for the first n rows of a table
 abbrev pub lay_checks : ℕ → List Point → List ℕ → List Check
 lay_checks n points bs =
-    check (nat_lt (length points) n) 13 (place 0 0) ∷ rows_checks 0 (take n points) bs
+    check (nat_lt (length points) n) 13 Step 0 0 ∷ rows_checks 0 (take n points) bs

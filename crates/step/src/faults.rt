@@ -1,12 +1,13 @@
 // What is wrong with a record, or with the tables that a call was lent.
 ghost use Rattle.std.specs.Prelude.{◌≡◌};
-ghost use Rattle.step.specs.Faults.{notice_at, notice_of_step, notice_of_writer};
+ghost use Rattle.sheet.specs.Checks.{notice};
+ghost use Rattle.step.specs.Faults.{notice_of_step, notice_of_writer};
 
 use sheet::{Layer, Notice};
 
-/// A place in a record: the point, and its field, 1 to 3 for x, y, z, or 0 for the map.
+/// A spot in a record: the point, and its field, 1 to 3 for x, y, z, or 0 for the map.
 #[derive(Clone, Copy, Debug, PartialEq, Eq)]
-pub struct At {
+pub struct Spot {
     pub point: u32,
     pub field: u8,
 }
@@ -16,13 +17,13 @@ pub enum StepFault {
     /// The table has fewer rows than the draft has points.
     TableTooShort,
     /// The record ends before this field.
-    EndsEarly(At),
+    EndsEarly(Spot),
     /// The map has a bit that no axis has.
-    MapTooLarge(At),
+    MapTooLarge(Spot),
     /// The field is there, and the move is nothing.
-    MoveOfZero(At),
+    MoveOfZero(Spot),
     /// The end is outside the range of a coordinate.
-    EndOutside(At),
+    EndOutside(Spot),
     /// Bytes follow the last point.
     BytesLeft,
 }
@@ -35,21 +36,14 @@ pub enum WriterFault {
     OutputTooShort,
 }
 
-/// The places of a fault that has none.
-const NOWHERE: At = At { point: 0, field: 0 };
+/// The spot of a fault that has none.
+const NO_SPOT: Spot = Spot { point: 0, field: 0 };
 
-impl At {
+impl Spot {
     fn notice(self, number: u8, layer: Layer) -> Notice
-        ensures { result ≡ notice_at number layer self }
+        ensures { result ≡ notice number layer self.point self.field }
     {
-        let first = self.point;
-        let second = u32::from(self.field);
-        Notice {
-            number,
-            layer,
-            first,
-            second,
-        }
+        Notice::new(number, layer, self.point, u32::from(self.field))
     }
 }
 
@@ -59,12 +53,12 @@ impl StepFault {
         ensures { result ≡ notice_of_step self }
     {
         match self {
-            StepFault::TableTooShort => NOWHERE.notice(13, Layer::Step),
+            StepFault::TableTooShort => NO_SPOT.notice(13, Layer::Step),
             StepFault::EndsEarly(at) => at.notice(8, Layer::Step),
             StepFault::MapTooLarge(at) => at.notice(9, Layer::Step),
             StepFault::MoveOfZero(at) => at.notice(10, Layer::Step),
             StepFault::EndOutside(at) => at.notice(11, Layer::Step),
-            StepFault::BytesLeft => NOWHERE.notice(12, Layer::Step),
+            StepFault::BytesLeft => NO_SPOT.notice(12, Layer::Step),
         }
     }
 }
@@ -75,8 +69,8 @@ impl WriterFault {
         ensures { result ≡ notice_of_writer self }
     {
         match self {
-            WriterFault::TableTooShort => NOWHERE.notice(13, Layer::Writer),
-            WriterFault::OutputTooShort => NOWHERE.notice(14, Layer::Writer),
+            WriterFault::TableTooShort => NO_SPOT.notice(13, Layer::Writer),
+            WriterFault::OutputTooShort => NO_SPOT.notice(14, Layer::Writer),
         }
     }
 }

@@ -5,7 +5,7 @@ ghost use Rattle.sheet.specs.Counted.{in_range};
 ghost use Rattle.step.specs.Faults.{notice_of_step};
 ghost use Rattle.step.specs.Laying.{bit_stands, field_checks, end_in, after_field};
 
-use crate::faults::{At, StepFault};
+use crate::faults::{Spot, StepFault};
 use sheet::COORDINATE_BOUND;
 
 /// The end of a coordinate that starts at `start`, and the rest of the record. It moves if the map
@@ -15,7 +15,7 @@ pub(crate) fn read_field(
     map: u8,
     bit: u8,
     start: i16,
-    at: At,
+    at: Spot,
 ) -> Result<(i16, &[u8]), StepFault>
     requires { 0 < bit }
     ensures fault { let stands = bit_stands map bit in

@@ -7,6 +7,6 @@ mod laying;
 mod rows;
 mod writing;
 
-pub use faults::{At, StepFault, WriterFault};
+pub use faults::{Spot, StepFault, WriterFault};
 pub use laying::lay;
 pub use writing::{is_moving, record_limit, write};

@@ -5,7 +5,7 @@ ghost use Rattle.sheet.specs.Counted.{counted};
 ghost use Rattle.step.specs.Faults.{notice_of_step};
 ghost use Rattle.step.specs.Laying.{row_checks, with_end, after_row, fields_checks, ends_of, after_fields};
 
-use crate::faults::{At, StepFault};
+use crate::faults::{Spot, StepFault};
 use crate::fields::read_field;
 use sheet::{Coords, Point};
 
@@ -17,7 +17,7 @@ pub(crate) fn read_row(bytes: &[u8], row: Point, number: u32) -> Result<(Point, 
     ensures row { IfOk result (λ p. p.0 ≡ with_end row bytes.now) }
     ensures rest { IfOk result (λ p. p.1.now ≡ after_row bytes.now) }
 {
-    let at = At {
+    let at = Spot {
         point: number,
         field: 0,
     };
@@ -44,8 +44,8 @@ fn read_fields(
     ensures end { IfOk result (λ p. p.0 ≡ ends_of map start bytes.now) }
     ensures rest { IfOk result (λ p. p.1.now ≡ after_fields map bytes.now) }
 {
-    let (x, bytes) = read_field(bytes, map, 1, start.x, At { point, field: 1 })?;
-    let (y, bytes) = read_field(bytes, map, 2, start.y, At { point, field: 2 })?;
-    let (z, rest) = read_field(bytes, map, 4, start.z, At { point, field: 3 })?;
+    let (x, bytes) = read_field(bytes, map, 1, start.x, Spot { point, field: 1 })?;
+    let (y, bytes) = read_field(bytes, map, 2, start.y, Spot { point, field: 2 })?;
+    let (z, rest) = read_field(bytes, map, 4, start.z, Spot { point, field: 3 })?;
     Ok((Coords { x, y, z }, rest))
 }

@@ -138,11 +138,11 @@ fn moves(point: Point) -> Coords
 fn move_of(start: i16, end: i16) -> i16
     ensures { result ≡ move_of start end }
 {
-    apart(coordinate_of(start), coordinate_of(end))
+    distance(coordinate_of(start), coordinate_of(end))
 }
 
 /// How far it is from one coordinate to another.
-fn apart(start: i16, end: i16) -> i16
+fn distance(start: i16, end: i16) -> i16
     requires start { IsTrue (in_range start) }
     requires end { IsTrue (in_range end) }
     ensures { result ≡ end -ℤ start }

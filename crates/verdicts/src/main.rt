@@ -8,7 +8,7 @@ use commands::{About, given};
 use draws::{Draws, Sum};
 use files::tell;
 use filters::{BoxFilter, DELIVERED, Filter, PlaneFilter, SlabFilter, Test, controls, struck_at};
-use samples::{Class, sample};
+use samples::{Family, sample};
 use std::io;
 use std::process::ExitCode;
 
@@ -33,7 +33,7 @@ const HELP: &str = "\
 usage: verdicts
 
 Strikes seven classes of 1,000 pseudo-random tests with each filter at each depth from 0 to 6, and prints
-  CLASS FILTER N N N N N N N   how many tests of the class the filter struck, at each depth
+  CLASS FILTER N N N N N N N   how many tests of the family the filter struck, at each depth
   CLASS checksum N             a sum over all values and verdicts so far
 docs/RULES.md has the classes, the numbers and the sum, so that another program can print the same.
 
@@ -76,22 +76,22 @@ fn verdicts_command(rt: &HostRuntime) -> u8 {
 fn print_verdicts(rt: &HostRuntime) -> io::Result<()> {
     let mut draws = Draws::new();
     let mut sum = Sum::new();
-    for class in [
-        Class::Uniform,
-        Class::Grazing,
-        Class::Coplanar,
-        Class::Far,
-        Class::Corners,
-        Class::Equal,
-        Class::Limits,
+    for family in [
+        Family::Uniform,
+        Family::Grazing,
+        Family::Coplanar,
+        Family::Far,
+        Family::Corners,
+        Family::Equal,
+        Family::Limits,
     ] {
-        let tally = judge_class(class, &mut draws, &mut sum);
-        print(rt, class.name(), &tally, &sum)?;
+        let tally = judge_class(family, &mut draws, &mut sum);
+        print(rt, family.name(), &tally, &sum)?;
     }
     Ok(())
 }
 
-fn judge_class(class: Class, draws: &mut Draws, sum: &mut Sum) -> Tally {
+fn judge_class(family: Family, draws: &mut Draws, sum: &mut Sum) -> Tally {
     let none = Counts { struck: [0; 7] };
     let mut tally = Tally {
         boxes: none,
@@ -100,7 +100,7 @@ fn judge_class(class: Class, draws: &mut Draws, sum: &mut Sum) -> Tally {
         rows: none,
     };
     for i in 0..TESTS {
-        if let Some(test) = Test::new(sample(class, i, draws)) {
+        if let Some(test) = Test::new(sample(family, i, draws)) {
             judge(&test, &mut tally, sum);
         }
     }
@@ -137,15 +137,15 @@ impl Counts {
     }
 }
 
-fn print(rt: &HostRuntime, class: &str, tally: &Tally, sum: &Sum) -> io::Result<()> {
-    print_counts(rt, class, "Box", tally.boxes)?;
-    print_counts(rt, class, "Slab", tally.slabs)?;
-    print_counts(rt, class, "Plane", tally.planes)?;
-    print_counts(rt, class, "row", tally.rows)?;
-    println!(rt; "{class} checksum {}", sum.value())
+fn print(rt: &HostRuntime, family: &str, tally: &Tally, sum: &Sum) -> io::Result<()> {
+    print_counts(rt, family, "Box", tally.boxes)?;
+    print_counts(rt, family, "Slab", tally.slabs)?;
+    print_counts(rt, family, "Plane", tally.planes)?;
+    print_counts(rt, family, "row", tally.rows)?;
+    println!(rt; "{family} checksum {}", sum.value())
 }
 
-fn print_counts(rt: &HostRuntime, class: &str, filter: &str, counts: Counts) -> io::Result<()> {
+fn print_counts(rt: &HostRuntime, family: &str, filter: &str, counts: Counts) -> io::Result<()> {
     let [a, b, c, d, e, f, g] = counts.struck;
-    println!(rt; "{class} {filter} {a} {b} {c} {d} {e} {f} {g}")
+    println!(rt; "{family} {filter} {a} {b} {c} {d} {e} {f} {g}")
 }

@@ -6,7 +6,7 @@ use crate::draws::Draws;
 use motion::{Moving, Shape, V3};
 
 #[derive(Clone, Copy)]
-pub enum Class {
+pub enum Family {
     Uniform,
     Grazing,
     Coplanar,
@@ -16,57 +16,57 @@ pub enum Class {
     Limits,
 }
 
-impl Class {
+impl Family {
     pub(crate) fn name(self) -> &'static str {
         match self {
-            Class::Uniform => "uniform",
-            Class::Grazing => "grazing",
-            Class::Coplanar => "coplanar",
-            Class::Far => "far",
-            Class::Corners => "corners",
-            Class::Equal => "equal",
-            Class::Limits => "limits",
+            Family::Uniform => "uniform",
+            Family::Grazing => "grazing",
+            Family::Coplanar => "coplanar",
+            Family::Far => "far",
+            Family::Corners => "corners",
+            Family::Equal => "equal",
+            Family::Limits => "limits",
         }
     }
 
     fn scale(self) -> u8 {
         match self {
-            Class::Limits => 6,
+            Family::Limits => 6,
             _ => 0,
         }
     }
 
-    fn place(self, first: bool, draws: &mut Draws) -> V3 {
+    fn position(self, first: bool, draws: &mut Draws) -> V3 {
         match self {
-            Class::Uniform | Class::Equal => V3 {
+            Family::Uniform | Family::Equal => V3 {
                 x: draws.around(4096),
                 y: draws.around(4096),
                 z: draws.around(4096),
             },
-            Class::Grazing => V3 {
+            Family::Grazing => V3 {
                 x: draws.around(4096),
                 y: draws.around(4096),
                 z: draws.around(8),
             },
-            Class::Coplanar => V3 {
+            Family::Coplanar => V3 {
                 x: draws.around(4096),
                 y: draws.around(4096),
                 z: draws.around(0),
             },
-            Class::Far => V3 {
+            Family::Far => V3 {
                 x: beside(first, draws.next()),
                 y: draws.around(4096),
                 z: draws.around(4096),
             },
-            Class::Corners => corner(4096, draws),
-            Class::Limits => corner(262144, draws),
+            Family::Corners => corner(4096, draws),
+            Family::Limits => corner(262144, draws),
         }
     }
 
     fn moving(self, first: bool, draws: &mut Draws) -> Moving {
         Moving {
-            start: self.place(first, draws),
-            end: self.place(first, draws),
+            start: self.position(first, draws),
+            end: self.position(first, draws),
         }
     }
 }
@@ -98,19 +98,19 @@ fn side(far: u32, n: u64) -> i64
 }
 
 /// Test number i of a class: VF where i is even, else EE.
-pub(crate) fn sample(class: Class, i: u32, draws: &mut Draws) -> Shape {
+pub(crate) fn sample(family: Family, i: u32, draws: &mut Draws) -> Shape {
     let vf = i % 2 == 0;
-    let one = class.moving(true, draws);
-    let two = class.moving(!vf, draws);
-    let three = class.moving(false, draws);
-    let four = class.moving(false, draws);
-    let third = match class {
-        Class::Equal => one,
+    let one = family.moving(true, draws);
+    let two = family.moving(!vf, draws);
+    let three = family.moving(false, draws);
+    let four = family.moving(false, draws);
+    let third = match family {
+        Family::Equal => one,
         _ => three,
     };
     if vf {
-        Shape::vf(one, two, third, four, class.scale())
+        Shape::vf(one, two, third, four, family.scale())
     } else {
-        Shape::ee(one, two, third, four, class.scale())
+        Shape::ee(one, two, third, four, family.scale())
     }
 }

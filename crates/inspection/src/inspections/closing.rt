@@ -1,7 +1,7 @@
 // Closing.
 ghost use Rattle.std.specs.Prelude.{◌≡◌};
 ghost use Rattle.inspection.specs.Tallies.{tally_in};
-ghost use Rattle.inspection.specs.declared.kinds.ListKind.TheVariants.{Vf, Ee};
+ghost use Rattle.motion.specs.declared.shapes.Kind.TheVariants.{Vf, Ee};
 
 use super::Inspection;
 use crate::classes::{Counts, Tally};

@@ -7,14 +7,14 @@ ghost use Rattle.inspection.specs.Lists.{contents_of, entries};
 ghost use Rattle.inspection.specs.States.{core_of, state_of, state_at_start};
 ghost use Rattle.inspection.specs.Runs.{depth_checks, Run};
 ghost use Rattle.inspection.specs.Claims.{Claim};
-ghost use Rattle.inspection.specs.Requests.{RequestStep, Steps, history};
+ghost use Rattle.inspection.specs.Requests.{RequestCall, Calls, history};
 
 use super::{Inspection, Refused};
-use crate::kinds::ListKind;
 use crate::lists::List;
 use crate::names::{EeName, VfName};
 use crate::requests::{Answer, Request};
 use filters::Filter;
+use motion::Kind;
 use sheet::{Draft, Face, Point};
 
 impl<F: Filter> Inspection<F> {
@@ -27,7 +27,7 @@ impl<F: Filter> Inspection<F> {
         ee: &mut List<'_, EeName>,
         request: Request,
     ) -> Answer
-        ensures step { RequestStep (F.Filter.struck self.old.filter) points.now faces.now
+        ensures call { RequestCall (F.Filter.struck self.old.filter) points.now faces.now
             request result (state_of self.old vf.old ee.old) (state_of self.new vf.new ee.new) }
         ensures filter { self.new.filter ≡ self.old.filter }
         ensures vf_lender { (contents_of vf.new).lender ≡ (contents_of vf.old).lender }
@@ -36,10 +36,10 @@ impl<F: Filter> Inspection<F> {
         match request {
             Request::SetDepth(depth) => Answer::DepthSet(self.set_depth(depth)),
             Request::Offer(what) => Answer::Offered(self.offer(points, faces, vf, ee, what)),
-            Request::Window(ListKind::Vf, entry) => {
+            Request::Window(Kind::Vf, entry) => {
                 Answer::Window(self.window(points, faces, vf, entry))
             }
-            Request::Window(ListKind::Ee, entry) => {
+            Request::Window(Kind::Ee, entry) => {
                 Answer::Window(self.window(points, faces, ee, entry))
             }
         }
@@ -53,7 +53,7 @@ pub struct Worked<F> {
     pub answered: usize,
 }
 
-/// Opens an inspection and works through requests in their order, as many as there are places for
+/// Opens an inspection and works through requests in their order, as many as there is room for
 /// answers. A refusal hands back the draft and the filter, and leaves the lists and the answers.
 ///
 /// Of what came of them nobody can name a touch that is missed: that is the clause `claim`.
@@ -73,8 +73,8 @@ pub fn inspect<F: Filter>(
         ≡ first_fit (depth_checks depth) }
     ensures answered { IfOk result (λ w.
         w.answered ≡ min (length requests.now) (length answers.old)) }
-    ensures steps { IfOk result (λ w.
-        Steps (F.Filter.struck filter) points.now faces.now
+    ensures calls { IfOk result (λ w.
+        Calls (F.Filter.struck filter) points.now faces.now
         (take w.answered requests.now) (take w.answered answers.new)
         (state_at_start draft depth (contents_of vf.old) (contents_of ee.old))
         (state_of w.inspection vf.new ee.new)) }

@@ -1,7 +1,7 @@
 use Rattle.std.proofs.Common.{◌≡◌, Ok, refl, ap, ◌∙◌, subst, lit≤}
 use Rattle.inspection.specs.Lists.{contents_of}
 use Rattle.inspection.specs.declared.offerings.Offering.TheVariants.{Faces}
-use Rattle.inspection.specs.Offers.{OfferStep}
+use Rattle.inspection.specs.Offers.{OfferCall}
 use Rattle.inspection.specs.Sheets.{sheet_in}
 use Rattle.inspection.specs.States.{State, state_of, state_at_start}
 use Rattle.inspection.specs.Runs.{opened, depth_set, offered}
@@ -25,9 +25,9 @@ returns-clause-offered g c =
     let e2 = c.offer_in_vain.ensures.filter ∙ e1 in
     let e3 = c.in-Ok.ensures.filter ∙ e2 in
     let e4 = c.offer_turned.ensures.filter ∙ e3 in
-    let first = rw (c.open-inspection.ensures.state, e0) at c.in-Some.ensures.step in
-    let before : v ≡ deeper t = (λ k. record { core = c.in-Ok.ensures.step.core k; vf = u.vf; ee = u.ee }) ∙ ap deeper c.offer_in_vain.ensures.state in
-    let second = subst (λ (s : State). OfferStep set ps fs (Faces a.second a.first) s r w) before (rw e3 at c.offer_turned.ensures.step) in
+    let first = rw (c.open-inspection.ensures.state, e0) at c.in-Some.ensures.call in
+    let before : v ≡ deeper t = (λ k. record { core = c.in-Ok.ensures.call.core k; vf = u.vf; ee = u.ee }) ∙ ap deeper c.offer_in_vain.ensures.state in
+    let second = subst (λ (s : State). OfferCall set ps fs (Faces a.second a.first) s r w) before (rw e3 at c.offer_turned.ensures.call) in
     let start = opened {s = state_at_start a.draft 2 (contents_of a.vf.now) (contents_of a.ee.now)} (record { depth = lit≤ tt; core = refl; vf = refl; ee = refl }) in
     let once = offered ps fs (Faces a.first a.second) (Ok tt) t start (λ h. refl) first in
     let run = offered ps fs (Faces a.second a.first) r w (depth_set 3 (Ok tt) (deeper t) once (record { fault = refl; core = refl }) refl refl) (λ h. refl) second in

@@ -11,5 +11,5 @@ returns-clause-state g c =
     let t : State = state_of c.offer.new.self c.offer.new.vf c.offer.new.ee in
     let u : State = state_of c.offer-2.new.self c.offer-2.new.vf c.offer-2.new.ee in
     let short : length (take c.min.result fs) ≤ a.first = omega (arith, length-take c.min.result fs) in
-    let same : t ≡ s = itself (g.F.Filter.struck a.inspection.now.filter) a.points.now fs a.first s t c.offer.result c.offer.ensures.step in
-    cut_short (g.F.Filter.struck c.offer.new.self.filter) a.points.now (take c.min.result fs) a.first t u a.second c.offer-2.result short c.offer-2.ensures.step ∙ same
+    let same : t ≡ s = itself (g.F.Filter.struck a.inspection.now.filter) a.points.now fs a.first s t c.offer.result c.offer.ensures.call in
+    cut_short (g.F.Filter.struck c.offer.new.self.filter) a.points.now (take c.min.result fs) a.first t u a.second c.offer-2.result short c.offer-2.ensures.call ∙ same

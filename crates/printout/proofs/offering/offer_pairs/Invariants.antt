@@ -1,5 +1,5 @@
 use Rattle.std.proofs.Common.{◌≡◌, ◌≤◌, ◌++◌, Ok}
-use Rattle.inspection.specs.PairBytes.{offers_in, offers_left}
+use Rattle.printout.specs.PairBytes.{offerings_in, offerings_left}
 use Rattle.inspection.specs.States.{state_of}
 use Rattle.printout.specs.Progress.{Offers}
 use Rattle.printout.proofs.offering.offer_pairs.Given as goal
@@ -11,5 +11,5 @@ invariant-loop-what g l = record {
       (state_of l.fn.inspection l.fn.vf l.fn.ee) (state_of l.inspection l.vf l.ee) l.fn.host (Ok (tt {0})) l.host;
   filter : l.inspection.filter ≡ l.fn.inspection.filter;
   less : g.H.Host.most l.host ≤ g.H.Host.most l.fn.host;
-  left : offers_in l.pairs ≡ l.yielded ++ offers_left l.what-iterator;
+  left : offerings_in l.pairs ≡ l.yielded ++ offerings_left l.what-iterator;
 }

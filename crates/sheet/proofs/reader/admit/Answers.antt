@@ -8,5 +8,5 @@ returns-in_err-entry-clause-fault c =
     let p = err_from_is_err_and c.from_residual.result c.from_residual.ensures.1 in
     rw (p.1, p.2, first_fit_append, ← c.in_err-entry.ensures.fault) refl
 
-pub returns-then-not-has_place-clause-fault : goal.returns-then-not-has_place-clause-fault
-returns-then-not-has_place-clause-fault c = rw (first_fit_append, ← c.in_ok-entry.ensures.fault) (grind arith)
+pub returns-then-not-has_room-clause-fault : goal.returns-then-not-has_room-clause-fault
+returns-then-not-has_room-clause-fault c = rw (first_fit_append, ← c.in_ok-entry.ensures.fault) (grind arith)

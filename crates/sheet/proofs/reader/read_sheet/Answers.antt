@@ -2,7 +2,7 @@ use Rattle.std.proofs.Common.{◌≡◌, length, take, drop, refl, zero-add, ari
 use Rattle.std.proofs.lemmas.List.{take_at}
 use Rattle.sheet.specs.Lines.{numbered}
 use Rattle.sheet.specs.Sheet.{none, points_in, faces_in}
-use Rattle.sheet.specs.declared.counts.Counts.{Counts}
+use Rattle.sheet.specs.declared.counts.RowCounts.{RowCounts}
 use Rattle.sheet.proofs.Sound.{sound}
 use Rattle.sheet.proofs.Walking.{counts_are}
 use Rattle.sheet.proofs.reader.read_sheet.Goals as goal
@@ -19,5 +19,5 @@ returns-clause-meaning c =
     let draft = returns-clause-draft c in
     let points : take c.new.result.points c.fill.new.points ≡ ps = rw (draft, c.fill.ensures.points) (take_at ps (drop (length ps) c.args.points.now) (length ps) refl) in
     let faces : take c.new.result.faces c.fill.new.faces ≡ fs = rw (draft, c.fill.ensures.faces) (take_at fs (drop (length fs) c.args.faces.now) (length fs) refl) in
-    let room : Counts = record { points = c.min-point_places.result; faces = c.min-face_places.result } in
+    let room : RowCounts = record { points = c.min-point_room.result; faces = c.min-face_room.result } in
     sound room (numbered c.args.text.now) _ _ (omega arith) (omega arith) c.in_ok-counts.ensures.fault points faces

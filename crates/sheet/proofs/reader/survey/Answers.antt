@@ -12,7 +12,7 @@ pub loop-line-preserved : goal.loop-line-preserved
 loop-line-preserved c =
     let left = c.in-Some.ensures.steps in
     let made = c.counting-above.ensures in
-    let entry_from = c.in_ok-entry.ensures in (
-      checks_more c.args.room c.loop-line.above _ _ _ _ _ left made entry_from.entry entry_from.fault ∙ c.loop-line.invariant.0,
-      total_more c.loop-line.above _ _ _ _ _ left made entry_from.entry ∙ c.loop-line.invariant.1,
+    let element_from = c.in_ok-entry.ensures in (
+      checks_more c.args.room c.loop-line.above _ _ _ _ _ left made element_from.entry element_from.fault ∙ c.loop-line.invariant.0,
+      total_more c.loop-line.above _ _ _ _ _ left made element_from.entry ∙ c.loop-line.invariant.1,
     )

@@ -1,6 +1,6 @@
 -- What an offer answers and leaves, from what its parts do.
 use Rattle.std.proofs.Common.{◌≡◌, ℕ, ◌-◌, Bool, true, false, cond, ◌||◌, nat_lt, List, [], ◌∷◌, ◌++◌, length, None, Ok, Err, Result, is_ok, refl, ap, ◌∙◌, subst, arith, length-append}
-use Rattle.sheet.specs.Checks.{first_fit, fault_notice}
+use Rattle.sheet.specs.Checks.{first_fit, fault_notice, check}
 use Rattle.sheet.specs.declared.notices.Layer.TheVariants.{Offer}
 use Rattle.sheet.proofs.FirstFit.{past}
 use Rattle.sheet.specs.declared.rows.Point.{Point}
@@ -11,13 +11,13 @@ use Rattle.inspection.specs.declared.faults.OfferFault.{OfferFault}
 use Rattle.inspection.specs.declared.faults.OfferFault.TheVariants.{ListFull}
 use Rattle.inspection.specs.declared.names.VfName.{VfName}
 use Rattle.inspection.specs.declared.names.EeName.{EeName}
-use Rattle.inspection.specs.Faults.{check, notice_of_offer}
+use Rattle.inspection.specs.Faults.{notice_of_offer}
 use Rattle.inspection.specs.Offerings.{Offering}
 use Rattle.inspection.specs.Sheets.{Sheet, sheet_in}
 use Rattle.inspection.specs.Tests.{Naming, vf_naming, ee_naming}
-use Rattle.inspection.specs.Lists.{Contents, entries, with_entries}
+use Rattle.inspection.specs.Lists.{Contents, entries, grown_to}
 use Rattle.inspection.specs.States.{State, state_of, with_counts}
-use Rattle.inspection.specs.Offers.{checks_but_room, room_check, offer_checks, entries_by, lacks_room, Outcome, OfferStep}
+use Rattle.inspection.specs.Offers.{checks_but_room, room_check, offer_checks, entries_by, lacks_room, Outcome, OfferCall}
 use Rattle.inspection.proofs.inspections.Inspection.offer.Goals as goal
 
 -- of one kind: whether there is room for the new entries
@@ -27,7 +27,7 @@ room-is n set d s o h new t x =
     let k : length new ≡ length (entries_by n set d s o h.entries) - length h.entries = omega (arith, ap length x.entries, length-append h.entries new) in
     ap (nat_lt (length h.rest)) k
 
-told : (b : Bool) → fault_notice {X = Unit {0}} notice_of_offer (cond b (Err ListFull) (Ok tt)) ≡ first_fit (check b 21 Offer 0 ∷ [])
+told : (b : Bool) → fault_notice {X = Unit {0}} notice_of_offer (cond b (Err ListFull) (Ok tt)) ≡ first_fit (check b 21 Offer 0 0 ∷ [])
 told true = refl
 told false = refl
 
@@ -45,25 +45,25 @@ module _ (set : Shape → Bool) (ps : List Point) (fs : List Face) (o : Offering
       let vf_room = room-is vf_naming set s.core.depth sheet o s.vf vfs vf_tally vf in
       let ee_room = room-is ee_naming set s.core.depth sheet o s.ee ees ee_tally ee in
       ap (fault_notice notice_of_offer) room ∙ told (nat_lt (length s.vf.rest) (length vfs) || nat_lt (length s.ee.rest) (length ees))
-      ∙ (λ i. first_fit (check (vf_room i || ee_room i) 21 Offer 0 ∷ []))
+      ∙ (λ i. first_fit (check (vf_room i || ee_room i) 21 Offer 0 0 ∷ []))
       ∙ past (checks_but_room s.core.draft ps fs o s.core.accepted) (room_check set sheet o s ∷ []) early
 
   stepped : (r : Result (Unit {0}) OfferFault) → r ≡ cond (nat_lt (length s.vf.rest) (length vfs) || nat_lt (length s.ee.rest) (length ees)) (Err ListFull) (Ok tt)
-      → t.vf ≡ cond (is_ok r) (with_entries (s.vf.entries ++ vfs) s.vf) s.vf → t.ee ≡ cond (is_ok r) (with_entries (s.ee.entries ++ ees) s.ee) s.ee
-      → t.core ≡ cond (is_ok r) (with_counts vf_tally ee_tally s.core) s.core → OfferStep set ps fs o s r t
+      → t.vf ≡ cond (is_ok r) (grown_to (s.vf.entries ++ vfs) s.vf) s.vf → t.ee ≡ cond (is_ok r) (grown_to (s.ee.entries ++ ees) s.ee) s.ee
+      → t.core ≡ cond (is_ok r) (with_counts vf_tally ee_tally s.core) s.core → OfferCall set ps fs o s r t
   stepped (Ok tt) room v e c =
       record {
         fault = fault (Ok tt) room;
         state = λ i. record {
           core = (c ∙ (λ i. with_counts (vf.tally i) (ee.tally i) s.core)) i;
-          vf = (v ∙ ap (λ es. with_entries es s.vf) vf.entries) i;
-          ee = (e ∙ ap (λ es. with_entries es s.ee) ee.entries) i;
+          vf = (v ∙ ap (λ es. grown_to es s.vf) vf.entries) i;
+          ee = (e ∙ ap (λ es. grown_to es s.ee) ee.entries) i;
         };
       }
   stepped (Err x) room v e c = record { fault = fault (Err x) room; state = λ i. record { core = c i; vf = v i; ee = e i } }
 
-pub returns-clause-step : goal.returns-clause-step
-returns-clause-step g c =
+pub returns-clause-call : goal.returns-clause-call
+returns-clause-call g c =
     let a = c.args in
     let set = g.F.Filter.struck a.self.now.filter in
     let d = a.self.now.depth in

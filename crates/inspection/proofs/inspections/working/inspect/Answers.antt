@@ -18,7 +18,7 @@ returns-clause-run g c =
     let s : State = state_at_start a.draft a.depth (contents_of a.vf.now) (contents_of a.ee.now) in
     let t : State = state_of l.inspection l.vf l.ee in
     subst (λ (j : ℕ). Run set a.draft (sheet_in a.draft a.points.now a.faces.now) (history a.depth (take j a.requests.now) (take j l.answers)) t) n
-    (worked-runs set a.points.now a.faces.now a.draft [] (take l.i a.requests.now) (take l.i l.answers) s t (opened (record { depth = k; core = refl; vf = refl; ee = refl })) l.invariant.steps)
+    (worked-runs set a.points.now a.faces.now a.draft [] (take l.i a.requests.now) (take l.i l.answers) s t (opened (record { depth = k; core = refl; vf = refl; ee = refl })) l.invariant.calls)
 
 pub returns-clause-claim : goal.returns-clause-claim
 returns-clause-claim g c =

@@ -1,13 +1,13 @@
 use Rattle.std.proofs.Common.{◌≡◌, take, drop}
 use Rattle.inspection.specs.Lists.{contents_of}
 use Rattle.inspection.specs.States.{state_of, state_at_start}
-use Rattle.inspection.specs.Requests.{Steps}
+use Rattle.inspection.specs.Requests.{Calls}
 use Rattle.inspection.proofs.inspections.working.inspect.Given as goal
 
 -- the first i requests are worked
 abbrev pub invariant-loop-i : goal.invariant-loop-i
 invariant-loop-i g l = record {
-  steps : Steps (g.F.Filter.struck l.fn.filter) l.points l.faces (take l.i l.requests) (take l.i l.answers) (state_at_start l.fn.draft l.depth (contents_of l.fn.vf) (contents_of l.fn.ee)) (state_of l.inspection l.vf l.ee);
+  calls : Calls (g.F.Filter.struck l.fn.filter) l.points l.faces (take l.i l.requests) (take l.i l.answers) (state_at_start l.fn.draft l.depth (contents_of l.fn.vf) (contents_of l.fn.ee)) (state_of l.inspection l.vf l.ee);
   filter : l.inspection.filter ≡ l.fn.filter;
   vf_lender : (contents_of l.vf).lender ≡ (contents_of l.fn.vf).lender;
   ee_lender : (contents_of l.ee).lender ≡ (contents_of l.fn.ee).lender;

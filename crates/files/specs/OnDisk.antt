@@ -3,7 +3,7 @@ use Rattle.std.specs.Prelude.{◌≡◌, ℕ, List, ◌⊎◌, Some, None, Optio
 use Rattle.std.specs.Option.{option_map}
 use Rattle.hosts.specs.Events.{Event, Read, Printed, Stored, Call, Reading, Printing, Storing}
 use Rattle.files.specs.Deeds.{Deed, ReadAt, PrintedOut, Flushed, StoredAt, Task, ReadingAt, PrintingOut, Flushing, StoringAt, DoesAll}
-use Rattle.files.specs.declared.placed.Placed.{Placed}
+use Rattle.files.specs.declared.on_disk.OnDisk.{OnDisk}
 
 -- ---- what a work's call is on the disk: nothing, where it stores and there is no target
 module _ {F : Type 0} (path : F → List ℕ) (target : Option (List ℕ)) where
@@ -23,7 +23,7 @@ module _ {D P F : Type 0} (path : P → F → List ℕ) (target : P → Option (
   DoesIfAny s (Some deed) t = does s deed t
   DoesIfAny s None t = t ≡ s
 
-  pub record DoesPlaced (s : Placed D P) (e : Event F) (t : Placed D P) : Type 0 where
+  pub record DoesOnDisk (s : OnDisk D P) (e : Event F) (t : OnDisk D P) : Type 0 where
     pub paths : t.paths ≡ s.paths
     pub done : DoesIfAny s.disk (deed_of (path s.paths) (target s.paths) e) t.disk
 
@@ -33,7 +33,7 @@ module _ {D P F E : Type 0} (path : P → F → List ℕ) (target : P → Option
   FailsIfAny s (Some task) e t = fails s task e t
   FailsIfAny s None e t = ⊥
 
-  pub record FailsPlaced (s : Placed D P) (call : Call F) (e : E) (t : Placed D P) : Type 0 where
+  pub record FailsOnDisk (s : OnDisk D P) (call : Call F) (e : E) (t : OnDisk D P) : Type 0 where
     pub paths : t.paths ≡ s.paths
     pub failed : FailsIfAny s.disk (call_of (path s.paths) (target s.paths) call) e t.disk
 
@@ -46,14 +46,14 @@ module _ {D P F E X : Type 0} (does : D → Deed F → D → Type 0) (fails : D 
 
   -- after a work that went well the last is done, and its answer stands unless that fails; after one
   -- that failed its error is answered
-  abbrev pub Ends : Placed D P → Result X E → Result X E → Placed D P → Type 0
+  abbrev pub Ends : OnDisk D P → Result X E → Result X E → OnDisk D P → Type 0
   Ends s (Ok x) r t = DoesAll does fails (lasts s.paths x) s.disk r t.disk × IfOk r (λ y. y ≡ x)
   Ends s (Err e) r t = TriesToFlush s.disk t.disk × (r ≡ Err e)
 
-  pub record Runs (Works : Placed D P → Result X E → Placed D P → Type 0)
-      (s : Placed D P) (r : Result X E) (t : Placed D P)
+  pub record Runs (Works : OnDisk D P → Result X E → OnDisk D P → Type 0)
+      (s : OnDisk D P) (r : Result X E) (t : OnDisk D P)
       : Type 0 where
-    pub between : Placed D P
+    pub between : OnDisk D P
     pub work : Result X E
     pub works : Works s work between
     pub ends : Ends between work r t

@@ -1,4 +1,4 @@
-use Rattle.recordings.proofs.runs.record_placed.Goals as goal
+use Rattle.recordings.proofs.runs.record_on_disk.Goals as goal
 
 pub returns : goal.returns
 returns g c =

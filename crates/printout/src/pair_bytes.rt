@@ -1,24 +1,24 @@
 // Pairs of faces, as bytes.
 ghost use Rattle.std.specs.Prelude.{◌≡◌, IfOk};
-ghost use Rattle.inspection.specs.PairBytes.{offers_in, offers_left};
+ghost use Rattle.printout.specs.PairBytes.{offerings_in, offerings_left};
 
-use crate::offerings::Offering;
+use inspection::Offering;
 use std::alloc::{AllocError, Global};
 
 /// The offers that are left of some bytes.
 #[derive(Clone, Copy)]
-pub struct PairOffers<'a> {
+pub struct PairOfferings<'a> {
     bytes: &'a [u8],
 }
 
-impl<'a> Iterator for PairOffers<'a> {
+impl<'a> Iterator for PairOfferings<'a> {
     ghost use Rattle.std.specs.Iterator.{YieldsFirst, item_count};
 
     type Item = Offering;
 
-    ghost next_gives = { YieldsFirst offers_left };
+    ghost next_gives = { YieldsFirst offerings_left };
 
-    ghost remaining = { item_count offers_left };
+    ghost remaining = { item_count offerings_left };
 
     fn next(&mut self) -> Option<Offering> {
         let [a, b, c, d, rest @ ..] = self.bytes else {
@@ -33,15 +33,15 @@ impl<'a> Iterator for PairOffers<'a> {
 
 /// The offers that these bytes hold, one after another: two face numbers of two bytes each, the
 /// lower byte first. A rest of under four bytes is skipped.
-pub fn pair_offers(bytes: &[u8]) -> PairOffers<'_>
-    ensures { offers_left result ≡ offers_in bytes.now }
+pub fn pair_offerings(bytes: &[u8]) -> PairOfferings<'_>
+    ensures { offerings_left result ≡ offerings_in bytes.now }
 {
-    PairOffers { bytes }
+    PairOfferings { bytes }
 }
 
 /// The same, all at once.
-pub fn offers_in(alloc: Global, bytes: &[u8]) -> Result<Vec<Offering>, AllocError>
-    ensures { IfOk result (λ v. v.items ≡ offers_in bytes.now) }
+pub fn offerings_in(alloc: Global, bytes: &[u8]) -> Result<Vec<Offering>, AllocError>
+    ensures { IfOk result (λ v. v.items ≡ offerings_in bytes.now) }
 {
-    pair_offers(bytes).collect(alloc)
+    pair_offerings(bytes).collect(alloc)
 }

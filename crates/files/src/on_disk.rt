@@ -2,15 +2,15 @@
 ghost use Rattle.std.specs.Prelude.{◌≡◌, ℕ, List, Some, None, Option, MatchOption};
 ghost use Rattle.files.specs.Deeds.{Deed};
 ghost use Rattle.files.specs.Lasts.{deeds_of};
-ghost use Rattle.files.specs.Failures.{place_name};
+ghost use Rattle.files.specs.Failures.{site_name};
 
 use crate::disks::Disk;
-use crate::failures::Place;
+use crate::failures::Site;
 use crate::lasts::{Last, finish};
 use hosts::Host;
 
 /// Where the files of a work lie.
-pub trait Places {
+pub trait FilePaths {
     /// The work's names of the files that it reads.
     type File;
 
@@ -38,37 +38,37 @@ pub trait Places {
 }
 
 /// By which name a failure is told.
-pub fn place_name<P: Places>(paths: &P, place: Place<P::File>) -> &str
-    ensures { result.now ≡ place_name P.path_of P.target_of paths.now place }
+pub fn site_name<P: FilePaths>(paths: &P, site: Site<P::File>) -> &str
+    ensures { result.now ≡ site_name P.path_of P.target_of paths.now site }
 {
-    match place {
-        Place::File(file) => paths.path(file),
-        Place::Output => "standard output",
-        Place::Target => paths.target().unwrap_or(""),
-        Place::Memory => "memory",
+    match site {
+        Site::File(file) => paths.path(file),
+        Site::Output => "standard output",
+        Site::Target => paths.target().unwrap_or(""),
+        Site::Memory => "memory",
     }
 }
 
 /// A disk, and where a work's files lie on it.
 #[derive(Drop)]
-pub struct Placed<D, P> {
+pub struct OnDisk<D, P> {
     pub disk: D,
     pub paths: P,
 }
 
-impl<D: Disk<P::File>, P: Places> Host for Placed<D, P>
+impl<D: Disk<P::File>, P: FilePaths> Host for OnDisk<D, P>
 where
     P::File: Copy,
 {
-    ghost use Rattle.files.specs.Placed.{DoesPlaced, FailsPlaced};
+    ghost use Rattle.files.specs.OnDisk.{DoesOnDisk, FailsOnDisk};
 
     type File = P::File;
 
     type Error = D::Error;
 
-    ghost does = { DoesPlaced P.path_of P.target_of D.does };
+    ghost does = { DoesOnDisk P.path_of P.target_of D.does };
 
-    ghost fails = { FailsPlaced P.path_of P.target_of D.fails };
+    ghost fails = { FailsOnDisk P.path_of P.target_of D.fails };
 
     ghost most = { λ s. D.most s.disk };
 
@@ -76,7 +76,7 @@ where
         self.disk.fill(file, self.paths.path(file), buf)
     }
 
-    #[tactic(auto, using(crate::proofs::Calls::print_placed))]
+    #[tactic(auto, using(crate::proofs::Calls::print_on_disk))]
     fn print(&mut self, bytes: &[u8]) -> Result<(), D::Error> {
         self.disk.print(bytes)
     }
@@ -89,8 +89,8 @@ where
     }
 }
 
-impl<D: Disk<P::File>, P: Places> Placed<D, P> {
-    ghost use Rattle.files.specs.Placed.{Ends};
+impl<D: Disk<P::File>, P: FilePaths> OnDisk<D, P> {
+    ghost use Rattle.files.specs.OnDisk.{Ends};
 
     /// Ends a run: does the last after a work that went well; after one that failed lets out what was
     /// printed, if that can be done, and answers its error.

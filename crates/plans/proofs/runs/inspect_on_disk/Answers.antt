@@ -1,4 +1,4 @@
-use Rattle.plans.proofs.runs.inspect_placed.Goals as goal
+use Rattle.plans.proofs.runs.inspect_on_disk.Goals as goal
 
 pub returns : goal.returns
 returns g c =
