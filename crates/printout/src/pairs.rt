@@ -94,10 +94,10 @@ pub(crate) fn inspect_pairs<H: Host<File = PlanFile>>(
     ensures { RunsFromPairs H.does H.fails draft tables.old.points tables.old.faces
         host.old result host.new }
 {
-    let mut vf_room = [VfName::default(); ROOM];
-    let mut ee_room = [EeName::default(); ROOM];
-    let mut vf = List::new(&mut vf_room);
-    let mut ee = List::new(&mut ee_room);
+    let mut vf_table = [VfName::default(); ROOM];
+    let mut ee_table = [EeName::default(); ROOM];
+    let mut vf = List::new(&mut vf_table);
+    let mut ee = List::new(&mut ee_table);
     let mut inspection = open_plan(draft, &mut vf, &mut ee);
     let points = &tables.points;
     let faces = &tables.faces;

@@ -7,7 +7,7 @@ use Rattle.sheet.specs.Passes.{total, with_point, with_face}
 use Rattle.sheet.specs.Sheet.{element_of, counting, has_room, point_row, face_row, points_in, faces_in, line_checks, lines_checks}
 use Rattle.sheet.specs.declared.counts.RowCounts.{RowCounts}
 use Rattle.sheet.specs.declared.lines.Element.{Element}
-use Rattle.sheet.specs.declared.lines.Element.TheVariants as entry
+use Rattle.sheet.specs.declared.lines.Element.TheVariants as element
 use Rattle.sheet.specs.declared.notices.Notice.{Notice}
 use Rattle.sheet.specs.declared.rows.Point.{Point}
 use Rattle.sheet.specs.declared.rows.Face.{Face}
@@ -32,14 +32,14 @@ pasted_more t i x rows h =
     rw (take_more_set t i x h, append_assoc, drop-set-lt (i + 1 + length rows) t i x (omega arith), k) refl
 
 by_point : (room above : RowCounts) (e : Element) (t rows : List Point) → has_room room above e ≡ true → room.points ≤ length t → pasted (with_point above e t) (counting above e).points rows ≡ pasted t above.points (point_row e ++ rows)
-by_point room above entry.Nothing t rows p h = refl
-by_point room above (entry.Point x) t rows p h = sym (pasted_more t above.points x rows (omega (arith, ltb-true _ _ p)))
-by_point room above (entry.Face x) t rows p h = refl
+by_point room above element.Nothing t rows p h = refl
+by_point room above (element.Point x) t rows p h = sym (pasted_more t above.points x rows (omega (arith, ltb-true _ _ p)))
+by_point room above (element.Face x) t rows p h = refl
 
 by_face : (room above : RowCounts) (e : Element) (t rows : List Face) → has_room room above e ≡ true → room.faces ≤ length t → pasted (with_face above e t) (counting above e).faces rows ≡ pasted t above.faces (face_row e ++ rows)
-by_face room above entry.Nothing t rows p h = refl
-by_face room above (entry.Point x) t rows p h = refl
-by_face room above (entry.Face x) t rows p h = sym (pasted_more t above.faces x rows (omega (arith, ltb-true _ _ p)))
+by_face room above element.Nothing t rows p h = refl
+by_face room above (element.Point x) t rows p h = refl
+by_face room above (element.Face x) t rows p h = sym (pasted_more t above.faces x rows (omega (arith, ltb-true _ _ p)))
 
 pub points_more : (room above next : RowCounts) (s : Element) (t u : List Point) (l : ℕ × List ℕ) (ls ms : List (ℕ × List ℕ)) → ms ≡ l ∷ ls → next ≡ counting above s → s ≡ element_of l.1 → u ≡ with_point above s t → has_room room above s ≡ true → room.points ≤ length t → pasted u next.points (points_in ls) ≡ pasted t above.points (points_in ms)
 points_more room above next s t u l ls ms p c e w h k =
@@ -51,9 +51,9 @@ faces_more room above next s t u l ls ms p c e w h k =
 
 -- the counts are those of the rows
 by_kind : (above : RowCounts) (e : Element) (ps : List Point) (fs : List Face) → ((counting above e).points + length ps ≡ above.points + length (point_row e ++ ps)) × ((counting above e).faces + length fs ≡ above.faces + length (face_row e ++ fs))
-by_kind above entry.Nothing ps fs = (refl, refl)
-by_kind above (entry.Point p) ps fs = (omega arith, refl)
-by_kind above (entry.Face f) ps fs = (refl, omega arith)
+by_kind above element.Nothing ps fs = (refl, refl)
+by_kind above (element.Point p) ps fs = (omega arith, refl)
+by_kind above (element.Face f) ps fs = (refl, omega arith)
 
 pub counts_are : (above : RowCounts) (ls : List (ℕ × List ℕ)) → ((total above ls).points ≡ above.points + length (points_in ls)) × ((total above ls).faces ≡ above.faces + length (faces_in ls))
 counts_are above [] = (omega arith, omega arith)

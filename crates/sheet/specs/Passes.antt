@@ -4,7 +4,7 @@ use Rattle.std.specs.Prelude.{ℕ, List, fold, slice_set}
 use Rattle.sheet.specs.Sheet.{element_of, counting}
 use Rattle.sheet.specs.declared.counts.RowCounts.{RowCounts}
 use Rattle.sheet.specs.declared.lines.Element.{Element}
-use Rattle.sheet.specs.declared.lines.Element.TheVariants as entry
+use Rattle.sheet.specs.declared.lines.Element.TheVariants as element
 use Rattle.sheet.specs.declared.rows.Point.{Point}
 use Rattle.sheet.specs.declared.rows.Face.{Face}
 
@@ -16,11 +16,11 @@ abbrev pub total : RowCounts → List (ℕ × List ℕ) → RowCounts
 total above ls = fold (λ a l. counting a (element_of l.1)) above ls
 
 abbrev pub with_point : RowCounts → Element → List Point → List Point
-with_point above entry.Nothing ps = ps
-with_point above (entry.Point p) ps = slice_set ps above.points p
-with_point above (entry.Face f) ps = ps
+with_point above element.Nothing ps = ps
+with_point above (element.Point p) ps = slice_set ps above.points p
+with_point above (element.Face f) ps = ps
 
 abbrev pub with_face : RowCounts → Element → List Face → List Face
-with_face above entry.Nothing fs = fs
-with_face above (entry.Point p) fs = fs
-with_face above (entry.Face f) fs = slice_set fs above.faces f
+with_face above element.Nothing fs = fs
+with_face above (element.Point p) fs = fs
+with_face above (element.Face f) fs = slice_set fs above.faces f

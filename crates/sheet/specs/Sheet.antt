@@ -10,7 +10,7 @@ use Rattle.sheet.specs.declared.counts.RowCounts.{RowCounts}
 use Rattle.sheet.specs.declared.drafts.Draft.{Draft}
 use Rattle.sheet.specs.declared.faults.Spot.{Spot}
 use Rattle.sheet.specs.declared.lines.Element.{Element}
-use Rattle.sheet.specs.declared.lines.Element.TheVariants as entry
+use Rattle.sheet.specs.declared.lines.Element.TheVariants as element
 use Rattle.sheet.specs.declared.notices.Layer.TheVariants.{Field, Line, Sheet}
 use Rattle.sheet.specs.declared.rows.Coords.{Coords}
 use Rattle.sheet.specs.declared.rows.Point.{Point}
@@ -93,10 +93,10 @@ face_from fs =
     record { a = point_named fs.first; b = point_named fs.second; c = point_named fs.third }
 
 abbrev pub element_from : Content → Element
-element_from skipped = entry.Nothing
-element_from (point fs) = entry.Point (point_from fs)
-element_from (face fs) = entry.Face (face_from fs)
-element_from no_start = entry.Nothing
+element_from skipped = element.Nothing
+element_from (point fs) = element.Point (point_from fs)
+element_from (face fs) = element.Face (face_from fs)
+element_from no_start = element.Nothing
 
 abbrev pub element_of : List ℕ → Element
 element_of l = element_from (content_of l)
@@ -106,14 +106,14 @@ element_of l = element_from (content_of l)
 -- what numbered lines say, in their order: points and faces
 
 abbrev pub point_row : Element → List Point
-point_row entry.Nothing = []
-point_row (entry.Point p) = p ∷ []
-point_row (entry.Face f) = []
+point_row element.Nothing = []
+point_row (element.Point p) = p ∷ []
+point_row (element.Face f) = []
 
 abbrev pub face_row : Element → List Face
-face_row entry.Nothing = []
-face_row (entry.Point p) = []
-face_row (entry.Face f) = f ∷ []
+face_row element.Nothing = []
+face_row (element.Point p) = []
+face_row (element.Face f) = f ∷ []
 
 abbrev pub points_in : List (ℕ × List ℕ) → List Point
 points_in ls = flat_map (λ l. point_row (element_of l.1)) ls
@@ -126,15 +126,15 @@ none = record { points = 0; faces = 0 }
 
 -- what stands above a line, and what the line says
 abbrev pub counting : RowCounts → Element → RowCounts
-counting above entry.Nothing = above
-counting above (entry.Point p) = record { points = above.points + 1; faces = above.faces }
-counting above (entry.Face f) = record { points = above.points; faces = above.faces + 1 }
+counting above element.Nothing = above
+counting above (element.Point p) = record { points = above.points + 1; faces = above.faces }
+counting above (element.Face f) = record { points = above.points; faces = above.faces + 1 }
 
 -- there is room for what a line says, after what stands above it
 abbrev pub has_room : RowCounts → RowCounts → Element → Bool
-has_room room above entry.Nothing = true
-has_room room above (entry.Point p) = nat_lt above.points room.points
-has_room room above (entry.Face f) = nat_lt above.faces room.faces
+has_room room above element.Nothing = true
+has_room room above (element.Point p) = nat_lt above.points room.points
+has_room room above (element.Face f) = nat_lt above.faces room.faces
 
 -- all checks of a numbered line, below what stands above it
 abbrev pub line_checks : RowCounts → RowCounts → ℕ × List ℕ → List Check

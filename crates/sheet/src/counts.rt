@@ -17,23 +17,23 @@ impl RowCounts {
         faces: 0,
     };
 
-    /// Whether this is room for the row of `entry` after those of `above`.
-    pub(crate) fn has_room(self, entry: Element, above: RowCounts) -> bool
-        ensures { result ≡ has_room self above entry }
+    /// Whether this is room for the row of `element` after those of `above`.
+    pub(crate) fn has_room(self, element: Element, above: RowCounts) -> bool
+        ensures { result ≡ has_room self above element }
     {
-        match entry {
+        match element {
             Element::Nothing => true,
             Element::Point(_) => above.points < self.points,
             Element::Face(_) => above.faces < self.faces,
         }
     }
 
-    /// These and the row of `entry`.
-    pub(crate) fn counting(self, entry: Element) -> RowCounts
-        requires { IsTrue (has_room widest self entry) }
-        ensures { result ≡ counting self entry }
+    /// These and the row of `element`.
+    pub(crate) fn counting(self, element: Element) -> RowCounts
+        requires { IsTrue (has_room widest self element) }
+        ensures { result ≡ counting self element }
     {
-        match entry {
+        match element {
             Element::Nothing => self,
             Element::Point(_) => RowCounts {
                 points: self.points + 1,

@@ -73,7 +73,7 @@ impl FieldFault {
         ensures { result ≡ notice_of_field self }
     {
         match self {
-            FieldFault::NotANumber(at) => at.notice(1, Layer::Field),
+            FieldFault::NotANumber(spot) => spot.notice(1, Layer::Field),
         }
     }
 }
@@ -85,10 +85,10 @@ impl LineFault {
     {
         match self {
             LineFault::Field(fault) => fault.notice(),
-            LineFault::NoSuchStart(at) => at.notice(2, Layer::Line),
-            LineFault::CoordinateOutside(at) => at.notice(3, Layer::Line),
-            LineFault::NoSuchPoint(at) => at.notice(4, Layer::Line),
-            LineFault::NamedBefore(at) => at.notice(5, Layer::Line),
+            LineFault::NoSuchStart(spot) => spot.notice(2, Layer::Line),
+            LineFault::CoordinateOutside(spot) => spot.notice(3, Layer::Line),
+            LineFault::NoSuchPoint(spot) => spot.notice(4, Layer::Line),
+            LineFault::NamedBefore(spot) => spot.notice(5, Layer::Line),
         }
     }
 }
@@ -101,7 +101,7 @@ impl SheetFault {
         match self {
             SheetFault::Line(fault) => fault.notice(),
             SheetFault::TextTooLong => Spot { line: 0, field: 0 }.notice(6, Layer::Sheet),
-            SheetFault::NoRoom(at) => at.notice(7, Layer::Sheet),
+            SheetFault::NoRoom(spot) => spot.notice(7, Layer::Sheet),
         }
     }
 }

@@ -33,12 +33,12 @@ pub(crate) fn split_fields(text: &[u8]) -> Fields<'_>
 }
 
 /// The number that a field writes: an optional minus and one to five digits.
-pub(crate) fn number(field: &[u8], at: Spot) -> Result<i32, FieldFault>
-    ensures fault { fault_notice notice_of_field result ≡ first_fit (numeral_checks at field.now) }
+pub(crate) fn number(field: &[u8], spot: Spot) -> Result<i32, FieldFault>
+    ensures fault { fault_notice notice_of_field result ≡ first_fit (numeral_checks spot field.now) }
     ensures value { IfOk result (λ n. n ≡ value_of field.now) }
 {
     let (negative, digits) = split_sign(field);
-    let n = magnitude(digits, at)?;
+    let n = magnitude(digits, spot)?;
     Ok(with_sign(n, negative))
 }
 
@@ -64,19 +64,19 @@ fn with_sign(n: u32, negative: bool) -> i32
 }
 
 /// The number that one to five digits write.
-fn magnitude(digits: &[u8], at: Spot) -> Result<u32, FieldFault>
+fn magnitude(digits: &[u8], spot: Spot) -> Result<u32, FieldFault>
     ensures fault { fault_notice notice_of_field result
-        ≡ first_fit (magnitude_checks at digits.now) }
+        ≡ first_fit (magnitude_checks spot digits.now) }
     ensures value { IfOk result (λ n. n ≡ digits_after 0 digits.now) }
     ensures small { IfOk result (λ n. n < 10 ^ 5) }
 {
     if !one_to_five(digits) {
-        return Err(FieldFault::NotANumber(at));
+        return Err(FieldFault::NotANumber(spot));
     }
     let mut n = 0;
     for d in digits {
         if !d.is_ascii_digit() {
-            return Err(FieldFault::NotANumber(at));
+            return Err(FieldFault::NotANumber(spot));
         }
         n = n * 10 + u32::from(*d - b'0');
     }

@@ -26,7 +26,7 @@ pub(crate) fn read_line(line: Line<'_>, points: u16) -> Result<Element, LineFaul
     ensures fault { let content = content_of line.entry.bytes.now in
         fault_notice notice_of_line result
         ≡ first_fit (content_checks line.entry.number points content) }
-    ensures entry { IfOk result (λ e. e ≡ element_of line.entry.bytes.now) }
+    ensures element { IfOk result (λ e. e ≡ element_of line.entry.bytes.now) }
 {
     let number = line.number;
     let [letter, rest @ ..] = line.bytes else {
@@ -64,19 +64,22 @@ fn read_point(text: &[u8], line: u32) -> Result<Point, LineFault>
     let x = coordinate(fields.first, Spot { line, field: 1 })?;
     let y = coordinate(fields.second, Spot { line, field: 2 })?;
     let z = coordinate(fields.third, Spot { line, field: 3 })?;
-    let at = Coords { x, y, z };
-    Ok(Point { start: at, end: at })
+    let position = Coords { x, y, z };
+    Ok(Point {
+        start: position,
+        end: position,
+    })
 }
 
-fn coordinate(field: &[u8], at: Spot) -> Result<i16, LineFault>
+fn coordinate(field: &[u8], spot: Spot) -> Result<i16, LineFault>
     ensures fault { fault_notice notice_of_line result
-        ≡ first_fit (coordinate_checks at field.now) }
+        ≡ first_fit (coordinate_checks spot field.now) }
     ensures value { IfOk result (λ v. v ≡ value_of field.now) }
 {
-    let value = number(field, at)?;
+    let value = number(field, spot)?;
     let bound = i32::from(COORDINATE_BOUND);
     if value < -bound || value > bound {
-        return Err(LineFault::CoordinateOutside(at));
+        return Err(LineFault::CoordinateOutside(spot));
     }
     Ok(value as i16)
 }
@@ -96,18 +99,18 @@ fn read_face(text: &[u8], line: u32, points: u16) -> Result<Face, LineFault>
 
 /// The number, from 0, of the point that a field names by its number from 1, other than the
 /// `earlier` ones.
-fn corner(field: &[u8], at: Spot, points: u16, earlier: &[u16]) -> Result<u16, LineFault>
+fn corner(field: &[u8], spot: Spot, points: u16, earlier: &[u16]) -> Result<u16, LineFault>
     ensures fault { fault_notice notice_of_line result
-        ≡ first_fit (corner_checks points at earlier.now field.now) }
+        ≡ first_fit (corner_checks points spot earlier.now field.now) }
     ensures named { IfOk result (λ n. n ≡ point_named field.now) }
 {
-    let value = number(field, at)?;
+    let value = number(field, spot)?;
     if value < 1 || value > i32::from(points) {
-        return Err(LineFault::NoSuchPoint(at));
+        return Err(LineFault::NoSuchPoint(spot));
     }
     let point = (value - 1) as u16;
     if earlier.contains(&point) {
-        return Err(LineFault::NamedBefore(at));
+        return Err(LineFault::NamedBefore(spot));
     }
     Ok(point)
 }

@@ -61,8 +61,8 @@ fn survey(text: &[u8], room: RowCounts) -> Result<RowCounts, SheetFault>
 {
     let mut above = RowCounts::NONE;
     for line in lines_in(text) {
-        let entry = admit(line, above, room)?;
-        above = above.counting(entry);
+        let element = admit(line, above, room)?;
+        above = above.counting(element);
     }
     Ok(above)
 }
@@ -78,11 +78,11 @@ fn fill(text: &[u8], room: RowCounts, points: &mut [Point], faces: &mut [Face])
 {
     let mut above = RowCounts::NONE;
     for line in lines_in(text) {
-        let Ok(entry) = admit(line, above, room) else {
+        let Ok(element) = admit(line, above, room) else {
             unreachable()
         };
-        store(entry, above, points, faces);
-        above = above.counting(entry);
+        store(element, above, points, faces);
+        above = above.counting(element);
     }
 }
 
@@ -90,27 +90,27 @@ fn fill(text: &[u8], room: RowCounts, points: &mut [Point], faces: &mut [Face])
 fn admit(line: Line<'_>, above: RowCounts, room: RowCounts) -> Result<Element, SheetFault>
     ensures fault { fault_notice notice_of_sheet result
         ≡ first_fit (line_checks room above (line_read line.entry)) }
-    ensures entry { IfOk result (λ e. e ≡ element_of line.entry.bytes.now) }
+    ensures element { IfOk result (λ e. e ≡ element_of line.entry.bytes.now) }
     ensures room { IfOk result (λ e. IsTrue (has_room room above e)) }
 {
-    let entry = read_line(line, above.points)?;
-    if !room.has_room(entry, above) {
+    let element = read_line(line, above.points)?;
+    if !room.has_room(element, above) {
         return Err(SheetFault::NoRoom(Spot {
             line: line.number,
             field: 0,
         }));
     }
-    Ok(entry)
+    Ok(element)
 }
 
-/// Writes the row of `entry` into its table, after those of `above`.
-fn store(entry: Element, above: RowCounts, points: &mut [Point], faces: &mut [Face])
+/// Writes the row of `element` into its table, after those of `above`.
+fn store(element: Element, above: RowCounts, points: &mut [Point], faces: &mut [Face])
     requires { IsTrue
-        (has_room (record { points = length points.old; faces = length faces.old }) above entry) }
-    ensures points { points.new ≡ with_point above entry points.old }
-    ensures faces { faces.new ≡ with_face above entry faces.old }
+        (has_room (record { points = length points.old; faces = length faces.old }) above element) }
+    ensures points { points.new ≡ with_point above element points.old }
+    ensures faces { faces.new ≡ with_face above element faces.old }
 {
-    match entry {
+    match element {
         Element::Nothing => {}
         Element::Point(point) => points[above.points as usize] = point,
         Element::Face(face) => faces[above.faces as usize] = face,

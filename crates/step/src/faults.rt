@@ -54,10 +54,10 @@ impl StepFault {
     {
         match self {
             StepFault::TableTooShort => NO_SPOT.notice(13, Layer::Step),
-            StepFault::EndsEarly(at) => at.notice(8, Layer::Step),
-            StepFault::MapTooLarge(at) => at.notice(9, Layer::Step),
-            StepFault::MoveOfZero(at) => at.notice(10, Layer::Step),
-            StepFault::EndOutside(at) => at.notice(11, Layer::Step),
+            StepFault::EndsEarly(spot) => spot.notice(8, Layer::Step),
+            StepFault::MapTooLarge(spot) => spot.notice(9, Layer::Step),
+            StepFault::MoveOfZero(spot) => spot.notice(10, Layer::Step),
+            StepFault::EndOutside(spot) => spot.notice(11, Layer::Step),
             StepFault::BytesLeft => NO_SPOT.notice(12, Layer::Step),
         }
     }

@@ -15,11 +15,11 @@ pub(crate) fn read_field(
     map: u8,
     bit: u8,
     start: i16,
-    at: Spot,
+    spot: Spot,
 ) -> Result<(i16, &[u8]), StepFault>
     requires { 0 < bit }
     ensures fault { let stands = bit_stands map bit in
-        fault_notice notice_of_step result ≡ first_fit (field_checks at stands start bytes.now) }
+        fault_notice notice_of_step result ≡ first_fit (field_checks spot stands start bytes.now) }
     ensures end { IfOk result (λ p. p.0 ≡ end_in (bit_stands map bit) start bytes.now) }
     ensures rest { IfOk result (λ p. p.1.now ≡ after_field (bit_stands map bit) bytes.now) }
 {
@@ -27,14 +27,14 @@ pub(crate) fn read_field(
         return Ok((start, bytes));
     }
     let [low, high, rest @ ..] = bytes else {
-        return Err(StepFault::EndsEarly(at));
+        return Err(StepFault::EndsEarly(spot));
     };
     let by = i16::from_le_bytes([*low, *high]);
     if by == 0 {
-        return Err(StepFault::MoveOfZero(at));
+        return Err(StepFault::MoveOfZero(spot));
     }
     let Some(end) = moved(start, by) else {
-        return Err(StepFault::EndOutside(at));
+        return Err(StepFault::EndOutside(spot));
     };
     Ok((end, rest))
 }

@@ -17,15 +17,15 @@ pub(crate) fn read_row(bytes: &[u8], row: Point, number: u32) -> Result<(Point, 
     ensures row { IfOk result (λ p. p.0 ≡ with_end row bytes.now) }
     ensures rest { IfOk result (λ p. p.1.now ≡ after_row bytes.now) }
 {
-    let at = Spot {
+    let spot = Spot {
         point: number,
         field: 0,
     };
     let [map, fields @ ..] = bytes else {
-        return Err(StepFault::EndsEarly(at));
+        return Err(StepFault::EndsEarly(spot));
     };
     if *map > 7 {
-        return Err(StepFault::MapTooLarge(at));
+        return Err(StepFault::MapTooLarge(spot));
     }
     let (end, rest) = read_fields(fields, *map, row.start.counted(), number)?;
     let start = row.start;

@@ -6,13 +6,13 @@ use Rattle.sheet.proofs.cuts.cut.Goals as goal
 pub returns-in-Some : goal.returns-in-Some
 returns-in-Some c =
     let text = c.args.text.now in
-    let found = position_or_len_is (λ (b : ℕ). b == c.args.at) text c.in-Some.i 0 (search rules) (search rules) (search rules) in
+    let found = position_or_len_is (λ (b : ℕ). b == c.args.byte) text c.in-Some.i 0 (search rules) (search rules) (search rules) in
     record { front = ap (λ n. take n text) (sym found); back = take_rest text _ ∙ ap (λ n. drop (n + 1) text) (sym found) }
 
 pub returns-in-None : goal.returns-in-None
 returns-in-None c =
     let text = c.args.text.now in
-    let none = position_or_len_is (λ (b : ℕ). b == c.args.at) text (length text) 0 (omega arith) (search rules) (search rules) in
+    let none = position_or_len_is (λ (b : ℕ). b == c.args.byte) text (length text) 0 (omega arith) (search rules) (search rules) in
     record {
       front = sym (ap (λ n. take n text) none ∙ take_all (length text) text (omega arith));
       back = sym (ap (λ n. drop (n + 1) text) none ∙ drop_all (length text + 1) text (omega arith));

@@ -14,7 +14,7 @@ loop-line-preserved c =
     let element_from = c.in-Ok.ensures in
     let p : c.args.room.points ≤ length c.loop-line.points = omega arith in
     let f : c.args.room.faces ≤ length c.loop-line.faces = omega arith in (
-      checks_more c.args.room c.loop-line.above _ _ _ _ _ left made element_from.entry element_from.fault ∙ c.loop-line.invariant.0,
-      points_more c.args.room c.loop-line.above _ _ c.loop-line.points _ _ _ _ left made element_from.entry c.store.ensures.points element_from.room p ∙ c.loop-line.invariant.1,
-      faces_more c.args.room c.loop-line.above _ _ c.loop-line.faces _ _ _ _ left made element_from.entry c.store.ensures.faces element_from.room f ∙ c.loop-line.invariant.2,
+      checks_more c.args.room c.loop-line.above _ _ _ _ _ left made element_from.element element_from.fault ∙ c.loop-line.invariant.0,
+      points_more c.args.room c.loop-line.above _ _ c.loop-line.points _ _ _ _ left made element_from.element c.store.ensures.points element_from.room p ∙ c.loop-line.invariant.1,
+      faces_more c.args.room c.loop-line.above _ _ c.loop-line.faces _ _ _ _ left made element_from.element c.store.ensures.faces element_from.room f ∙ c.loop-line.invariant.2,
     )
