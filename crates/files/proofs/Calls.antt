@@ -18,7 +18,7 @@ module _ {D P F E : Type 0} (path : P → F → List ℕ) (target : P → Option
       record {
         front = cut.front;
         rest = cut.rest;
-        parts = sym same ∙ cut.parts;
+        split = sym same ∙ cut.split;
         before = record { disk = cut.before; paths = s.paths };
         did = record { paths = refl; done = subst (λ d. DoesIfAny path target does s.disk d cut.before) (sym (is_deed cut.front)) cut.did };
         failed = record { paths = paths; failed = subst (λ k. FailsIfAny path target fails cut.before k e t.disk) (sym is_task) cut.failed };

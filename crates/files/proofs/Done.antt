@@ -8,10 +8,10 @@ module _ {S F E : Type 0} (does : S → Deed F → S → Type 0) (fails : S → 
   does_then : {X : Type 0} (d : Deed F) (ds : List (Deed F)) (s t u : S) (r : Result X E) → does s d t → DoesAll does fails ds t r u → DoesAll does fails (d ∷ ds) s r u
   does_then d ds s t u (Ok x) first w = went_first does d first w
   does_then d ds s t u (Err e) first f =
-      record { front = d ∷ f.front; next = f.next; rest = f.rest; parts = ap (λ l. d ∷ l) f.parts; before = f.before; went = went_first does d first f.went; failed = f.failed }
+      record { front = d ∷ f.front; next = f.next; rest = f.rest; split = ap (λ l. d ∷ l) f.split; before = f.before; went = went_first does d first f.went; failed = f.failed }
 
   fails_at : (X : Type 0) (d : Deed F) (ds : List (Deed F)) (s t : S) (e : E) → fails s (task_of d) e t → (let r : Result X E = Err e in DoesAll does fails (d ∷ ds) s r t)
-  fails_at X d ds s t e f = record { front = []; next = d; rest = ds; parts = refl; before = s; went = nothing; failed = f }
+  fails_at X d ds s t e f = record { front = []; next = d; rest = ds; split = refl; before = s; went = nothing; failed = f }
 
   pub does_one : {X : Type 0} (d : Deed F) (s t : S) (r : Result X E) → MatchResult r (λ x. does s d t) (λ e. fails s (task_of d) e t) → DoesAll does fails (d ∷ []) s r t
   does_one d s t (Ok x) did = next d nothing did

@@ -39,4 +39,4 @@ came_no_more first second xs old new i k p q h is =
 pub cut_at_once : {S V C E X : Type 0} (s t : S) (event : List ℕ → V) (call : C) (bytes : List ℕ) (r : Result X E)
     → MatchResult r (λ x. Unit {0}) (λ e. CutOff (λ s v t. Unit {0}) (λ s k e t. Unit {0}) s event call bytes e t)
 cut_at_once s t event call bytes (Ok x) = tt
-cut_at_once s t event call bytes (Err e) = record { front = []; rest = bytes; parts = refl; before = s; did = tt; failed = tt }
+cut_at_once s t event call bytes (Err e) = record { front = []; rest = bytes; split = refl; before = s; did = tt; failed = tt }

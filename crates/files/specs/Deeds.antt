@@ -33,7 +33,7 @@ module _ {S F E : Type 0} (does : S → Deed F → S → Type 0) (fails : S → 
     pub front : List (Deed F)
     pub next : Deed F
     pub rest : List (Deed F)
-    pub parts : deeds ≡ front ++ next ∷ rest
+    pub split : deeds ≡ front ++ next ∷ rest
     pub before : S
     pub went : Went does s front before
     pub failed : fails before (task_of next) e t

@@ -10,11 +10,11 @@ pub(crate) struct Beside {
     file: File,
     held: Held,
     /// Where it lies and where it is to lie; none where the target is no plain file, as a device.
-    moves: Option<Move>,
+    renaming: Option<Renaming>,
 }
 
 #[derive(Drop)]
-struct Move {
+struct Renaming {
     from: String,
     to: String,
 }
@@ -34,7 +34,7 @@ impl Beside {
                     rt,
                     file,
                     held,
-                    moves: None,
+                    renaming: None,
                 })
             }
             Err(e) if e.kind() == ErrorKind::NotFound => Beside::create(rt, path, held),
@@ -50,7 +50,7 @@ impl Beside {
                 rt,
                 file,
                 held,
-                moves: Some(Move { from, to }),
+                renaming: Some(Renaming { from, to }),
             }),
             Err(e) if e.kind() == ErrorKind::AlreadyExists => {
                 let reason = "the name with .part after it is taken";
@@ -67,11 +67,11 @@ impl Beside {
     /// Puts it in the place of the target.
     pub(crate) fn keep(&mut self) -> io::Result<()> {
         self.held.flush(&mut self.file)?;
-        if let Some(Move { from, to }) = &self.moves {
+        if let Some(Renaming { from, to }) = &self.renaming {
             self.file.sync_all()?;
             fs::rename(&self.rt, from.as_str(), to.as_str())?;
         }
-        self.moves = None;
+        self.renaming = None;
         Ok(())
     }
 }
@@ -82,9 +82,9 @@ impl Drop for Beside {
             rt,
             file: _,
             held: _,
-            moves,
+            renaming,
         } = self;
-        if let Some(Move { from, to: _ }) = moves {
+        if let Some(Renaming { from, to: _ }) = renaming {
             let _ = fs::remove_file(&rt, from.as_str());
         }
     }

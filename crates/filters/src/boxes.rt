@@ -20,7 +20,7 @@ impl Filter for BoxFilter {
 
     fn strikes(&self, test: &Test) -> bool {
         let t = test.shape;
-        Axis::X.parts(t) || Axis::Y.parts(t) || Axis::Z.parts(t)
+        Axis::X.separates(t) || Axis::Y.separates(t) || Axis::Z.separates(t)
     }
 }
 
@@ -49,7 +49,7 @@ impl Axis {
         Span::between(self.of(m.start), self.of(m.end))
     }
 
-    fn parts(self, t: Shape) -> bool
+    fn separates(self, t: Shape) -> bool
         ensures { result ≡ parted_on (coordinate self) t }
     {
         let p = self.sweep(t.p);

@@ -38,7 +38,7 @@ impl Filter for SlabFilter {
     ghost lawful = { λ f. slab-lawful };
 
     fn strikes(&self, test: &Test) -> bool {
-        all_directions().iter().any(|d| parts(*d, test))
+        all_directions().iter().any(|d| separates(*d, test))
     }
 }
 
@@ -50,7 +50,7 @@ fn all_directions() -> &'static [V3; 13]
 }
 
 /// Along the direction one feature is beyond the other, at the start and at the end alike.
-fn parts(d: V3, test: &Test) -> bool
+fn separates(d: V3, test: &Test) -> bool
     requires { Within 1 d }
     ensures { result ≡ parted_along test.now.shape d }
 {

@@ -3,7 +3,7 @@ use Rattle.std.proofs.Common.{◌≡◌, length, nat_lt, None, Option, IfSome, r
 use Rattle.sheet.specs.IsSheet.{IsSheet}
 use Rattle.sheet.specs.Lines.{numbered}
 use Rattle.sheet.specs.Checks.{check}
-use Rattle.sheet.specs.Sheet.{point_limit, face_limit, text_limit, none, room_in, lines_checks, draft_of}
+use Rattle.sheet.specs.Sheet.{point_limit, face_limit, text_limit, no_rows, room_in, lines_checks, draft_of}
 use Rattle.sheet.specs.declared.notices.Layer.TheVariants.{Sheet}
 use Rattle.sheet.specs.declared.notices.Notice.{Notice}
 use Rattle.step.specs.Steps.{Step}
@@ -20,7 +20,7 @@ module _ (f : Frames) where
   is_sheet : frame_fault f.end ≡ None → IsSheet (points_of f.end) (faces_of f.end)
   is_sheet good =
       let room = room_in point_limit face_limit in
-      let lines = lines_checks room none (numbered f.end) in
+      let lines = lines_checks room no_rows (numbered f.end) in
       let long = check (nat_lt text_limit (length f.end)) 6 Sheet 0 0 in
       sound room (numbered f.end) (points_of f.end) (faces_of f.end) (lit≤ tt) (lit≤ tt) (sym (no_fit long lines good).1) refl refl
 

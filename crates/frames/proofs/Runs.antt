@@ -88,7 +88,7 @@ module _ {S E : Type 0} (does : S → Event FrameFile → S → Type 0) (fails :
   says file {ps = ps} {fs = fs} r x is text h = subst (Says text ps fs) is (r.says text (sym (append-nil r.came) ∙ h))
 
   pub first_not_read : (s t : S) (e : E) (r : Result Recording E) → fails s (Reading Start) e t → r ≡ Err e → Records does fails s r t
-  first_not_read s t e r = stops_at does fails s s t [] refl nothing r Start e (λ f h. record { rest = _; parts = refl })
+  first_not_read s t e r = stops_at does fails s s t [] refl nothing r Start e (λ f h. record { rest = _; split = refl })
 
   module _ (s t : S) (ps : List Point) (fs : List Face) (read : Result Draft SheetFault) (first : FrameRead does Start s ps fs read t) where
     abbrev one : List (Event FrameFile)
@@ -107,7 +107,7 @@ module _ {S E : Type 0} (does : S → Event FrameFile → S → Type 0) (fails :
       pub second_not_read : (u : S) (e : E) (r : Result Recording E) → fails t (Reading End) e u → r ≡ Err e → Records does fails s r u
       second_not_read u e r =
           stops_at does fails s t u one refl one_went r End e
-          (λ f h. rw (says Start first (Ok d) good f.start (h Start)).no_fault (record { rest = []; parts = refl }))
+          (λ f h. rw (says Start first (Ok d) good f.start (h Start)).no_fault (record { rest = []; split = refl }))
 
       module _ (u v : S) (qs : List Point) (gs : List Face) (read_too : Result Draft SheetFault) (second : FrameRead does End t qs gs read_too u) where
         abbrev two : List (Event FrameFile)

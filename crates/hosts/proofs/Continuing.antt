@@ -26,7 +26,7 @@ module _ {S F E : Type 0} (does : S → Event F → S → Type 0) (fails : S →
   pub cut_stops : (Part : List (Event F) → Call F → Type 0) (s t : S) (event : List ℕ → Event F) (call : Call F) (bytes : List ℕ) (e : E)
       → ((front rest : List ℕ) → bytes ≡ front ++ rest → Part (event front ∷ []) call) → CutOff does fails s event call bytes e t → Stopped does fails Part s e t
   cut_stops Part s t event call bytes e part c =
-      record { events = event c.front ∷ []; call = call; before = c.before; went = next (event c.front) nothing c.did; failed = c.failed; part = part c.front c.rest c.parts }
+      record { events = event c.front ∷ []; call = call; before = c.before; went = next (event c.front) nothing c.did; failed = c.failed; part = part c.front c.rest c.split }
 
 -- ---- by what is done and how it ends
 module _ {S F E X : Type 0} (does : S → Event F → S → Type 0) (fails : S → Call F → E → S → Type 0) (Q : List (Event F) → Result X (Call F) → Type 0) where

@@ -21,8 +21,8 @@ module _ {S F E : Type 0} (does : S → Event F → S → Type 0) (fails : S →
       }
   printed_at_once s t bytes (Err e) c =
       cut_stops does fails (IsPrintedInPart bytes) s t Printed Printing bytes e
-      (λ front rest parts.
-      record { alone = All-cons IsPrint (Printed front) [] tt (All-nil IsPrint); rest = rest; parts = parts ∙ ap (λ bs. bs ++ rest) (sym (append-nil front)); failed = refl }) c
+      (λ front rest split.
+      record { alone = All-cons IsPrint (Printed front) [] tt (All-nil IsPrint); rest = rest; split = split ∙ ap (λ bs. bs ++ rest) (sym (append-nil front)); failed = refl }) c
 
   -- no call
   pub nothing_printed : {X : Type 0} (s : S) (x : X) → Prints {E = E} does fails [] s (Ok x) s
@@ -38,8 +38,8 @@ module _ {S F E : Type 0} (does : S → Event F → S → Type 0) (fails : S →
       record {
         alone = All-append IsPrint p.events es p.good.alone g.alone;
         rest = g.rest;
-        parts =
-            (λ i. sym p.good.whole i ++ g.parts i) ∙ sym (append_assoc (printed p.events) (printed es) g.rest)
+        split =
+            (λ i. sym p.good.whole i ++ g.split i) ∙ sym (append_assoc (printed p.events) (printed es) g.rest)
             ∙ ap (λ bs. bs ++ g.rest) (sym (flat_map-append printed_by p.events es));
         failed = g.failed;
       }) q
@@ -58,7 +58,7 @@ module _ {S F E : Type 0} (does : S → Event F → S → Type 0) (fails : S →
         part = record {
           alone = p.part.alone;
           rest = p.part.rest ++ second;
-          parts = ap (λ bs. bs ++ second) p.part.parts ∙ append_assoc (printed p.events) p.part.rest second;
+          split = ap (λ bs. bs ++ second) p.part.split ∙ append_assoc (printed p.events) p.part.rest second;
           failed = p.part.failed;
         };
       })

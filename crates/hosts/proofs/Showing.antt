@@ -22,8 +22,8 @@ pub shown : {S V : Type 0} (does : S → V → S → Type 0) (page : S → Page)
     → (s t : S) (es : List V) → Went does s es t → ShowsBehind (page s) (flat_map text es) (page t)
 shown does page text each s t es nothing lent before h = shows_none (page s) lent before h
 shown does page text each s t es (next {t = m} {es = first} e w d) lent before h =
-    let parts : flat_map text (first ++ (e ∷ [])) ≡ flat_map text first ++ text e = flat_map-append text first (e ∷ []) ∙ ap (λ bs. flat_map text first ++ bs) (append-nil (text e)) in
-    subst (λ bs. Shows lent bs (page t)) (append_assoc before (flat_map text first) (text e) ∙ ap (λ bs. before ++ bs) (sym parts))
+    let split : flat_map text (first ++ (e ∷ [])) ≡ flat_map text first ++ text e = flat_map-append text first (e ∷ []) ∙ ap (λ bs. flat_map text first ++ bs) (append-nil (text e)) in
+    subst (λ bs. Shows lent bs (page t)) (append_assoc before (flat_map text first) (text e) ∙ ap (λ bs. before ++ bs) (sym split))
     (each m t e d lent (before ++ flat_map text first) (shown does page text each s m first w lent before h))
 
 -- what is printed on an empty page is what it shows

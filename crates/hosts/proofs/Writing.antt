@@ -48,9 +48,9 @@ module _ {S F E : Type 0} (does : S → Event F → S → Type 0) (fails : S →
     pub print_cut : (t : S) (bytes text : List ℕ) (e : E) (r : Result X E) → CutOff does fails s Printed Printing bytes e t → bytes ≡ text → r ≡ Err e → Writes does fails (Printed text ∷ all) answer s r t
     print_cut t bytes text e r cut is failed =
         rw (← is, failed)
-        (cut_stops does fails (IsWrittenInPart (Printed bytes ∷ all)) s t Printed Printing bytes e (λ front rest parts. record { part = rw parts (in_a_print front rest); no_read = refl }) cut)
+        (cut_stops does fails (IsWrittenInPart (Printed bytes ∷ all)) s t Printed Printing bytes e (λ front rest split. record { part = rw split (in_a_print front rest); no_read = refl }) cut)
 
     pub store_cut : (t : S) (bytes whole : List ℕ) (e : E) (r : Result X E) → CutOff does fails s Stored Storing bytes e t → bytes ≡ whole → r ≡ Err e → Writes does fails (Stored whole ∷ all) answer s r t
     store_cut t bytes whole e r cut is failed =
         rw (← is, failed)
-        (cut_stops does fails (IsWrittenInPart (Stored bytes ∷ all)) s t Stored Storing bytes e (λ front rest parts. record { part = rw parts (in_a_store front rest); no_read = refl }) cut)
+        (cut_stops does fails (IsWrittenInPart (Stored bytes ∷ all)) s t Stored Storing bytes e (λ front rest split. record { part = rw split (in_a_store front rest); no_read = refl }) cut)

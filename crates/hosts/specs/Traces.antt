@@ -14,7 +14,7 @@ pub record CutOff {S V C E : Type 0}
     : Type 0 where
   pub front : List ℕ
   pub rest : List ℕ
-  pub parts : bytes ≡ front ++ rest
+  pub split : bytes ≡ front ++ rest
   pub before : S
   pub did : does s (event front) before
   pub failed : fails before call e t

@@ -41,7 +41,7 @@ unread_by (Err call) = unread call
 -- a front of it
 pub record IsFront {X : Type 0} (front whole : List X) : Type 0 where
   pub rest : List X
-  pub parts : whole ≡ front ++ rest
+  pub split : whole ≡ front ++ rest
 
 -- ---- a work that prints a text, and does nothing else
 abbrev pub IsPrint : {F : Type 0} → Event F → Type 0
@@ -58,7 +58,7 @@ pub record IsPrintedInPart {F : Type 0} (text : List ℕ) (es : List (Event F)) 
     : Type 0 where
   pub alone : All IsPrint es
   pub rest : List ℕ
-  pub parts : text ≡ printed es ++ rest
+  pub split : text ≡ printed es ++ rest
   pub failed : call ≡ Printing
 
 abbrev pub Prints : {S F E X : Type 0} → (S → Event F → S → Type 0)

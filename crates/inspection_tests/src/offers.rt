@@ -9,9 +9,9 @@ use std::test::Fail;
 #[test]
 fn once_again_and_swapped(rt: HostRuntime) -> Result<(), Fail> {
     let plan = crossing()?;
-    let (mut vf_places, mut ee_places) = ([VfName::default(); 6], [EeName::default(); 9]);
-    let mut vf = List::new(&mut vf_places);
-    let mut ee = List::new(&mut ee_places);
+    let (mut vf_table, mut ee_table) = ([VfName::default(); 6], [EeName::default(); 9]);
+    let mut vf = List::new(&mut vf_table);
+    let mut ee = List::new(&mut ee_table);
     let mut inspection = open(plan.draft, DELIVERED, 2, &mut vf, &mut ee)?;
     let once = inspection.offer(&plan.points, &plan.faces, &mut vf, &mut ee, BOTH);
     assert_eq!(rt; once, Ok(()));
@@ -37,9 +37,9 @@ fn once_again_and_swapped(rt: HostRuntime) -> Result<(), Fail> {
 #[test]
 fn another_filter(rt: HostRuntime) -> Result<(), Fail> {
     let plan = crossing()?;
-    let (mut vf_places, mut ee_places) = ([VfName::default(); 6], [EeName::default(); 9]);
-    let mut vf = List::new(&mut vf_places);
-    let mut ee = List::new(&mut ee_places);
+    let (mut vf_table, mut ee_table) = ([VfName::default(); 6], [EeName::default(); 9]);
+    let mut vf = List::new(&mut vf_table);
+    let mut ee = List::new(&mut ee_table);
     let mut inspection = open(plan.draft, Nothing, 2, &mut vf, &mut ee)?;
     let _ = inspection.offer(&plan.points, &plan.faces, &mut vf, &mut ee, BOTH);
     assert_eq!(rt; (vf.len(), ee.len()), (6, 9));
@@ -56,9 +56,9 @@ fn another_filter(rt: HostRuntime) -> Result<(), Fail> {
 #[test]
 fn a_common_edge(rt: HostRuntime) -> Result<(), Fail> {
     let plan = hinged()?;
-    let (mut vf_places, mut ee_places) = ([VfName::default(); 6], [EeName::default(); 9]);
-    let mut vf = List::new(&mut vf_places);
-    let mut ee = List::new(&mut ee_places);
+    let (mut vf_table, mut ee_table) = ([VfName::default(); 6], [EeName::default(); 9]);
+    let mut vf = List::new(&mut vf_table);
+    let mut ee = List::new(&mut ee_table);
     let mut inspection = open(plan.draft, Nothing, 0, &mut vf, &mut ee)?;
     let _ = inspection.offer(&plan.points, &plan.faces, &mut vf, &mut ee, BOTH);
     let _ = inspection.offer(
@@ -78,9 +78,9 @@ fn a_common_edge(rt: HostRuntime) -> Result<(), Fail> {
 fn a_point_twice(rt: HostRuntime) -> Result<(), Fail> {
     let mut plan = crossing()?;
     plan.faces[1] = Face { a: 3, b: 3, c: 4 };
-    let (mut vf_places, mut ee_places) = ([VfName::default(); 5], [EeName::default(); 6]);
-    let mut vf = List::new(&mut vf_places);
-    let mut ee = List::new(&mut ee_places);
+    let (mut vf_table, mut ee_table) = ([VfName::default(); 5], [EeName::default(); 6]);
+    let mut vf = List::new(&mut vf_table);
+    let mut ee = List::new(&mut ee_table);
     let mut inspection = open(plan.draft, Nothing, 0, &mut vf, &mut ee)?;
     let offer = inspection.offer(&plan.points, &plan.faces, &mut vf, &mut ee, BOTH);
     assert_eq!(rt; offer, Ok(()));

@@ -15,9 +15,9 @@ fn refuses(
     fault: OfferFault,
 ) -> Result<(), Fail> {
     let plan = crossing()?;
-    let (mut vf_places, mut ee_places) = ([VfName::default(); 9], [EeName::default(); 12]);
-    let mut vf = List::new(&mut vf_places);
-    let mut ee = List::new(&mut ee_places);
+    let (mut vf_table, mut ee_table) = ([VfName::default(); 9], [EeName::default(); 12]);
+    let mut vf = List::new(&mut vf_table);
+    let mut ee = List::new(&mut ee_table);
     let mut inspection = open(plan.draft, Nothing, 2, &mut vf, &mut ee)?;
     let _ = inspection.offer(&plan.points, &plan.faces, &mut vf, &mut ee, BOTH);
     let before = inspection.findings(&vf, &ee);
@@ -68,9 +68,9 @@ fn offers(rt: HostRuntime) -> Result<(), Fail> {
 #[test]
 fn a_million_and_one(rt: HostRuntime) -> Result<(), Fail> {
     let plan = crossing()?;
-    let (mut vf_places, mut ee_places) = ([VfName::default(); 6], [EeName::default(); 9]);
-    let mut vf = List::new(&mut vf_places);
-    let mut ee = List::new(&mut ee_places);
+    let (mut vf_table, mut ee_table) = ([VfName::default(); 6], [EeName::default(); 9]);
+    let mut vf = List::new(&mut vf_table);
+    let mut ee = List::new(&mut ee_table);
     let mut inspection = open(plan.draft, Nothing, 0, &mut vf, &mut ee)?;
     for _ in 0..1_000_000 {
         let answer = inspection.offer(&plan.points, &plan.faces, &mut vf, &mut ee, BOTH);
@@ -92,9 +92,9 @@ fn a_million_and_one(rt: HostRuntime) -> Result<(), Fail> {
 #[test]
 fn depths(rt: HostRuntime) -> Result<(), Fail> {
     let plan = crossing()?;
-    let (mut vf_places, mut ee_places) = ([VfName::default(); 6], [EeName::default(); 9]);
-    let mut vf = List::new(&mut vf_places);
-    let mut ee = List::new(&mut ee_places);
+    let (mut vf_table, mut ee_table) = ([VfName::default(); 6], [EeName::default(); 9]);
+    let mut vf = List::new(&mut vf_table);
+    let mut ee = List::new(&mut ee_table);
     let draft = match Inspection::open(plan.draft, Nothing, 7, &mut vf, &mut ee) {
         Ok(_) => return Err(Fail::new("depth 7 is open")),
         Err(refused) => {

@@ -22,9 +22,9 @@ const UNANSWERED: Answer = Answer::Window(Ok(None));
 #[test]
 fn in_any_mix(rt: HostRuntime) -> Result<(), Fail> {
     let plan = crossing()?;
-    let (mut vf_places, mut ee_places) = ([VfName::default(); 6], [EeName::default(); 9]);
-    let mut vf = List::new(&mut vf_places);
-    let mut ee = List::new(&mut ee_places);
+    let (mut vf_table, mut ee_table) = ([VfName::default(); 6], [EeName::default(); 9]);
+    let mut vf = List::new(&mut vf_table);
+    let mut ee = List::new(&mut ee_table);
     let mut answers = [UNANSWERED; 6];
     let worked = match inspect(
         plan.draft,

@@ -9,12 +9,12 @@ use std::test::Fail;
 /// all is as it was.
 fn offer_to(
     rt: &impl Abort,
-    vf_places: &mut [VfName],
-    ee_places: &mut [EeName],
+    vf_table: &mut [VfName],
+    ee_table: &mut [EeName],
 ) -> Result<Result<(), OfferFault>, Fail> {
     let plan = crossing()?;
-    let mut vf = List::new(vf_places);
-    let mut ee = List::new(ee_places);
+    let mut vf = List::new(vf_table);
+    let mut ee = List::new(ee_table);
     let mut inspection = open(plan.draft, Nothing, 6, &mut vf, &mut ee)?;
     let answer = inspection.offer(&plan.points, &plan.faces, &mut vf, &mut ee, BOTH);
     if answer.is_err() {
@@ -42,13 +42,13 @@ fn enough(rt: HostRuntime) -> Result<(), Fail> {
 #[test]
 fn one_too_few(rt: HostRuntime) -> Result<(), Fail> {
     let marked = VfName { point: 7, face: 7 };
-    let mut vf_places = [marked; 5];
-    let answer = offer_to(&rt, &mut vf_places, &mut [EeName::default(); 9])?;
+    let mut vf_table = [marked; 5];
+    let answer = offer_to(&rt, &mut vf_table, &mut [EeName::default(); 9])?;
     assert_eq!(rt; answer, Err(OfferFault::ListFull));
-    assert_eq!(rt; vf_places, [marked; 5]);
-    let mut vf_places = [marked; 6];
-    let answer = offer_to(&rt, &mut vf_places, &mut [EeName::default(); 8])?;
+    assert_eq!(rt; vf_table, [marked; 5]);
+    let mut vf_table = [marked; 6];
+    let answer = offer_to(&rt, &mut vf_table, &mut [EeName::default(); 8])?;
     assert_eq!(rt; answer, Err(OfferFault::ListFull));
-    assert_eq!(rt; vf_places, [marked; 6]);
+    assert_eq!(rt; vf_table, [marked; 6]);
     Ok(())
 }

@@ -8,9 +8,9 @@ use std::test::Fail;
 #[test]
 fn at_depths(rt: HostRuntime) -> Result<(), Fail> {
     let plan = crossing()?;
-    let (mut vf_places, mut ee_places) = ([VfName::default(); 6], [EeName::default(); 9]);
-    let mut vf = List::new(&mut vf_places);
-    let mut ee = List::new(&mut ee_places);
+    let (mut vf_table, mut ee_table) = ([VfName::default(); 6], [EeName::default(); 9]);
+    let mut vf = List::new(&mut vf_table);
+    let mut ee = List::new(&mut ee_table);
     let mut inspection = open(plan.draft, DELIVERED, 2, &mut vf, &mut ee)?;
     let _ = inspection.offer(&plan.points, &plan.faces, &mut vf, &mut ee, BOTH);
     assert_eq!(rt;
@@ -33,9 +33,9 @@ fn at_depths(rt: HostRuntime) -> Result<(), Fail> {
 #[test]
 fn absent_where_deeper_strikes(rt: HostRuntime) -> Result<(), Fail> {
     let plan = turning()?;
-    let (mut vf_places, mut ee_places) = ([VfName::default(); 6], [EeName::default(); 9]);
-    let mut vf = List::new(&mut vf_places);
-    let mut ee = List::new(&mut ee_places);
+    let (mut vf_table, mut ee_table) = ([VfName::default(); 6], [EeName::default(); 9]);
+    let mut vf = List::new(&mut vf_table);
+    let mut ee = List::new(&mut ee_table);
     let mut inspection = open(plan.draft, DELIVERED, 0, &mut vf, &mut ee)?;
     let _ = inspection.offer(&plan.points, &plan.faces, &mut vf, &mut ee, BOTH);
     let mut entry = 6;
@@ -59,9 +59,9 @@ fn absent_where_deeper_strikes(rt: HostRuntime) -> Result<(), Fail> {
 #[test]
 fn refused(rt: HostRuntime) -> Result<(), Fail> {
     let mut plan = crossing()?;
-    let (mut vf_places, mut ee_places) = ([VfName::default(); 6], [EeName::default(); 9]);
-    let mut vf = List::new(&mut vf_places);
-    let mut ee = List::new(&mut ee_places);
+    let (mut vf_table, mut ee_table) = ([VfName::default(); 6], [EeName::default(); 9]);
+    let mut vf = List::new(&mut vf_table);
+    let mut ee = List::new(&mut ee_table);
     let mut inspection = open(plan.draft, DELIVERED, 2, &mut vf, &mut ee)?;
     let _ = inspection.offer(&plan.points, &plan.faces, &mut vf, &mut ee, BOTH);
     assert_eq!(rt;

@@ -48,10 +48,10 @@ fn inspect(rt: &HostRuntime) -> io::Result<()> {
         first: Stacked,
         second: delivered_filter(),
     };
-    let mut vf_places = [VfName::default(); 6];
-    let mut ee_places = [EeName::default(); 9];
-    let mut vf = List::new(&mut vf_places);
-    let mut ee = List::new(&mut ee_places);
+    let mut vf_table = [VfName::default(); 6];
+    let mut ee_table = [EeName::default(); 9];
+    let mut vf = List::new(&mut vf_table);
+    let mut ee = List::new(&mut ee_table);
     match inspect_by_hand(draft, filter, &points, &faces, &mut vf, &mut ee, 0, 1) {
         Some(counts) => println!(rt;
             "a corner sinks through: {} VF and {} EE tests are listed",

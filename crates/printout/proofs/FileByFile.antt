@@ -107,7 +107,7 @@ module _ (p : Plan) where
 
   pub settles : (es : List (Event PlanFile)) (how : Result Ending (Call PlanFile)) → Comes p (needed p) es how → Settles es how
   settles es (Ok end) c =
-      let all = c.parts ∙ ap (λ r. told_by es ⊕ r) c.ends.told ∙ told_nothing (told_by es) in
+      let all = c.split ∙ ap (λ r. told_by es ⊕ r) c.ends.told ∙ told_nothing (told_by es) in
       record {
         text = sym (ap (λ l. l.text) all);
         stored = sym (ap (λ l. l.stored) all);
@@ -119,8 +119,8 @@ module _ (p : Plan) where
       }
   settles es (Err call) c =
       record {
-        text = front_of (printed es) c.rest.text (printout p).text (ap (λ l. l.text) c.parts);
-        stored = front_of (stored es) c.rest.stored (printout p).stored (ap (λ l. l.stored) c.parts);
+        text = front_of (printed es) c.rest.text (printout p).text (ap (λ l. l.text) c.split);
+        stored = front_of (stored es) c.rest.stored (printout p).stored (ap (λ l. l.stored) c.split);
         pieces = c.pieces;
         files = front_of (files_read es ++ unread call) c.later (needed p c.pieces) c.files;
         told = λ f is. c.told f (ap unread is);
@@ -134,7 +134,7 @@ module _ (p : Plan) (needed_in : ℕ → List PlanFile) where
   comes_faulty n is f size bytes last es how (told, faulty) =
       record {
         rest = told.rest;
-        parts = ap (λ o. record { text = o.text; stored = o.stored }) made ∙ told.parts;
+        split = ap (λ o. record { text = o.text; stored = o.stored }) made ∙ told.split;
         pieces = 0;
         later = [];
         files = last ∙ sym (append-nil (f ∷ files_read es ++ unread_by how) ∙ ap (λ l. f ∷ l) told.files);
@@ -158,7 +158,7 @@ module _ (p : Plan) (needed_in : ℕ → List PlanFile) where
 
   -- ---- its first file can't be read
   pub comes_unread : (f : PlanFile) (later : List PlanFile) → needed_in 0 ≡ f ∷ later → Comes p needed_in [] (Err (Reading f))
-  comes_unread f later first = record { rest = plan_told p; parts = refl; pieces = 0; later = later; files = first; ends = tt; told = λ g is. refl }
+  comes_unread f later first = record { rest = plan_told p; split = refl; pieces = 0; later = later; files = first; ends = tt; told = λ g is. refl }
 
   -- ---- a file is read, and then all goes as it may
   pub comes_after : (f : PlanFile) (size : ℕ) (bytes : List ℕ) (before : ℕ → List PlanFile) → ((n : ℕ) → before n ≡ f ∷ needed_in n) → same_file Pairs f ≡ false
@@ -166,7 +166,7 @@ module _ (p : Plan) (needed_in : ℕ → List PlanFile) where
   comes_after f size bytes before more other es how c =
       record {
         rest = c.rest;
-        parts = c.parts;
+        split = c.split;
         pieces = c.pieces;
         later = c.later;
         files = more c.pieces ∙ ap (λ l. f ∷ l) c.files;

@@ -132,7 +132,7 @@ module _ {S E : Type 0} (does : S → Event PlanFile → S → Type 0) (fails : 
             pieces = told.pieces + 1;
             tells = record {
               rest = told.tells.rest;
-              parts = told.tells.parts;
+              split = told.tells.split;
               untold = told.tells.untold;
               files = ap (λ l. l ++ (Pairs ∷ [])) (sym (append-nil (files_read a.events)) ∙ told.tells.files) ∙ replicate-append-replicate told.pieces 1 Pairs;
             };
@@ -253,17 +253,17 @@ module _ (p : Plan) (d : Draft) (ps : List Point) (fs : List Face) (h : HoldsPla
       let rest = told.tells.rest in
       let walk_on : told_of (walk p) ≡ told_by es ⊕ (rest ⊕ on.0) =
       ap told_of (sym (same_walk (offerings_in p.pairs)) ∙ ap over first.1 ∙ fold-append (offered delivered (sheet_in d ps fs)) (just_opened d) (pairs_came es) first.0)
-      ∙ on.1 ∙ ap (λ l. l ⊕ on.0) told.tells.parts ∙ told_assoc (told_by es) rest on.0 in
+      ∙ on.1 ∙ ap (λ l. l ⊕ on.0) told.tells.split ∙ told_assoc (told_by es) rest on.0 in
       record {
         rest = rest ⊕ on.0 ⊕ report;
-        parts = whole ∙ ap (λ l. l ⊕ report) walk_on ∙ told_assoc (told_by es) (rest ⊕ on.0) report;
+        split = whole ∙ ap (λ l. l ⊕ report) walk_on ∙ told_assoc (told_by es) (rest ⊕ on.0) report;
         pieces = told.pieces;
         later = [];
         files = sym (append-nil (files_read es ++ unread call) ∙ told.tells.files);
         ends = tt;
         told = λ f is.
             let none = unread_untold (Unit {0}) call rest f told.tells.untold is in
-            sym (ap (λ l. l.text) (told.tells.parts ∙ ap (λ r. told_by es ⊕ r) none ∙ told_nothing (told_by es))) ∙ ap refusal_lines (same_walk (pairs_came es));
+            sym (ap (λ l. l.text) (told.tells.split ∙ ap (λ r. told_by es ⊕ r) none ∙ told_nothing (told_by es))) ∙ ap refusal_lines (same_walk (pairs_came es));
       }
 
   -- and then the report is printed
@@ -279,7 +279,7 @@ module _ (p : Plan) (d : Draft) (ps : List Point) (fs : List Face) (h : HoldsPla
     comes_reported came n told quiet end fits =
         record {
           rest = told.rest;
-          parts = whole ∙ sym (λ i. told_of (whole_walk i) ⊕ only_text ((same_report ∙ ap (λ w. report_of p w.found) whole_walk) i)) ∙ told.parts;
+          split = whole ∙ sym (λ i. told_of (whole_walk i) ⊕ only_text ((same_report ∙ ap (λ w. report_of p w.found) whole_walk) i)) ∙ told.split;
           pieces = n;
           later = [];
           files = sym (append-nil (files_read (es ++ gs) ++ unread_by how) ∙ told.files);

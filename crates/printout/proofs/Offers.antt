@@ -173,12 +173,12 @@ module _ {S E : Type 0} (does : S → Event PlanFile → S → Type 0) (fails : 
   pub offers_short : (os later all : List Offering) (o : Offering) (s t u v : State) (h i j : S) (e : E) (r : Result (Unit {0}) E) → r ≡ Err e → all ≡ os ++ (o ∷ later)
       → Offers {X = Unit {0}} does fails set ps fs os s t h (Ok tt) i → Offers {X = Unit {0}} does fails set ps fs (o ∷ []) t u i (Err e) j → Offers does fails set ps fs all s v h r j
   unfolding Offers
-  offers_short os later all o s t u v h i j e r is parts first second d w m =
+  offers_short os later all o s t u v h i j e r is split first second d w m =
       let sheet = sheet_in d ps fs in
       let tried = os ++ (o ∷ []) in
       let before = walked set sheet w tried in
       let on = goes_on set sheet before later in
-      let pairs : all ≡ tried ++ later = parts ∙ sym (append_assoc os (o ∷ []) later) in
+      let pairs : all ≡ tried ++ later = split ∙ sym (append_assoc os (o ∷ []) later) in
       let end = ap (λ l. told_of (walked set sheet w l)) pairs ∙ ap told_of (fold-append (offered set sheet) w tried later) ∙ on.1 in
       ran_short does fails (TellsPairs set d ps fs w all v) (TellsPairs set d ps fs w tried u) h j e r is
       (λ es call told. (tells_short (told_of w) (told_of before) on.0 (told_of (walked set sheet w all)) es call end told.0, tt))

@@ -59,22 +59,22 @@ module _ {X : Type 0} where
   quiet pieces a es how none untold files =
       record {
         rest = nothing_told;
-        parts = sym (told_nothing (a ⊕ told_by es) ∙ ap (λ b. a ⊕ b) none ∙ told_nothing a);
+        split = sym (told_nothing (a ⊕ told_by es) ∙ ap (λ b. a ⊕ b) none ∙ told_nothing a);
         untold = untold;
         files = files;
       }
 
   -- all that is told at an end
   pub told_all : (pieces : ℕ) (a b : Told) (es : List (Event PlanFile)) (x : X) → Tells pieces a b es (Ok x) → b ≡ a ⊕ told_by es
-  told_all pieces a b es x t = t.parts ∙ ap (λ r. a ⊕ told_by es ⊕ r) t.untold ∙ told_nothing (a ⊕ told_by es)
+  told_all pieces a b es x t = t.split ∙ ap (λ r. a ⊕ told_by es ⊕ r) t.untold ∙ told_nothing (a ⊕ told_by es)
 
   pub tells_then : {Y : Type 0} (m n : ℕ) (a b c : Told) (es fs : List (Event PlanFile)) (x : X) (how : Result Y (Call PlanFile))
       → Tells m a b es (Ok x) → Tells n b c fs how → Tells (m + n) a c (es ++ fs) how
   tells_then m n a b c es fs x how first second =
       record {
         rest = second.rest;
-        parts =
-            second.parts ∙ ap (λ l. l ⊕ told_by fs ⊕ second.rest) (told_all m a b es x first)
+        split =
+            second.split ∙ ap (λ l. l ⊕ told_by fs ⊕ second.rest) (told_all m a b es x first)
             ∙ ap (λ l. l ⊕ second.rest) (told_assoc a (told_by es) (told_by fs) ∙ ap (λ l. a ⊕ l) (sym (told_append es fs)));
         untold = second.untold;
         files =
@@ -85,12 +85,12 @@ module _ {X : Type 0} where
   -- behind what was told before
   pub tells_behind : (pieces : ℕ) (a b : Told) (es : List (Event PlanFile)) (how : Result X (Call PlanFile)) → Tells pieces nothing_told b es how → Tells pieces a (a ⊕ b) es how
   tells_behind pieces a b es how t =
-      record { rest = t.rest; parts = ap (λ l. a ⊕ l) t.parts ∙ sym (told_assoc a (told_by es) t.rest); untold = t.untold; files = t.files }
+      record { rest = t.rest; split = ap (λ l. a ⊕ l) t.split ∙ sym (told_assoc a (told_by es) t.rest); untold = t.untold; files = t.files }
 
   -- a call fails, and more was to be told
   pub tells_short : {Y : Type 0} (a b more c : Told) (es : List (Event PlanFile)) (call : Call PlanFile) → c ≡ b ⊕ more → Tells {X = X} 0 a b es (Err call) → Tells {X = Y} 0 a c es (Err call)
   tells_short {Y} a b more c es call is t =
-      record { rest = t.rest ⊕ more; parts = is ∙ ap (λ l. l ⊕ more) t.parts ∙ told_assoc (a ⊕ told_by es) t.rest more; untold = untold call t.files; files = t.files }
+      record { rest = t.rest ⊕ more; split = is ∙ ap (λ l. l ⊕ more) t.split ∙ told_assoc (a ⊕ told_by es) t.rest more; untold = untold call t.files; files = t.files }
     where
       untold : (call : Call PlanFile) → files_read es ++ unread call ≡ [] → LeavesUntold {X = Y} (Err call) (t.rest ⊕ more)
       untold (Reading f) none = absurd (some_read (files_read es) f none)
@@ -107,7 +107,7 @@ module _ {S E : Type 0} (does : S → Event PlanFile → S → Type 0) (fails : 
         good = (
           record {
             rest = nothing_told;
-            parts = λ i. record { text = sym (append-nil _ ∙ p.good.whole) i; stored = sym (append-nil _ ∙ prints_store_nothing p.events p.good.alone) i };
+            split = λ i. record { text = sym (append-nil _ ∙ p.good.whole) i; stored = sym (append-nil _ ∙ prints_store_nothing p.events p.good.alone) i };
             untold = refl;
             files = append-nil (files_read p.events) ∙ prints_read_nothing p.events p.good.alone;
           },
@@ -124,7 +124,7 @@ module _ {S E : Type 0} (does : S → Event PlanFile → S → Type 0) (fails : 
         part = (
           record {
             rest = only_text p.part.rest;
-            parts = λ i. record { text = p.part.parts i; stored = sym (append-nil _ ∙ prints_store_nothing p.events p.part.alone) i };
+            split = λ i. record { text = p.part.split i; stored = sym (append-nil _ ∙ prints_store_nothing p.events p.part.alone) i };
             untold = subst (λ c. LeavesUntold {X = X} (Err c) (only_text p.part.rest)) (sym p.part.failed) tt;
             files = λ i. prints_read_nothing p.events p.part.alone i ++ unread (p.part.failed i);
           },
@@ -141,7 +141,7 @@ module _ {S E : Type 0} (does : S → Event PlanFile → S → Type 0) (fails : 
         went = next (Stored bytes) nothing d;
         good = record {
           rest = nothing_told;
-          parts = λ i. record { text = sym (append-nil (line ++ []) ∙ append-nil line) i; stored = sym (append-nil (bytes ++ []) ∙ append-nil bytes) i };
+          split = λ i. record { text = sym (append-nil (line ++ []) ∙ append-nil line) i; stored = sym (append-nil (bytes ++ []) ∙ append-nil bytes) i };
           untold = refl;
           files = refl;
         };
@@ -155,7 +155,7 @@ module _ {S E : Type 0} (does : S → Event PlanFile → S → Type 0) (fails : 
         failed = c.failed;
         part = record {
           rest = record { text = []; stored = c.rest };
-          parts = λ i. record { text = sym (append-nil (line ++ []) ∙ append-nil line) i; stored = (c.parts ∙ ap (λ l. l ++ c.rest) (sym (append-nil c.front))) i };
+          split = λ i. record { text = sym (append-nil (line ++ []) ∙ append-nil line) i; stored = (c.split ∙ ap (λ l. l ++ c.rest) (sym (append-nil c.front))) i };
           untold = tt;
           files = refl;
         };

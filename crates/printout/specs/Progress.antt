@@ -95,7 +95,7 @@ LeavesUntold (Err call) rest = Unit {0}
 -- the file of pairs is read in so many pieces, and no other file
 pub record Tells {X : Type 0} (pieces : ℕ) (before all : Told) (es : List (Event PlanFile)) (how : Result X (Call PlanFile)) : Type 0 where
   pub rest : Told
-  pub parts : all ≡ before ⊕ told_by es ⊕ rest
+  pub split : all ≡ before ⊕ told_by es ⊕ rest
   pub untold : LeavesUntold how rest
   pub files : files_read es ++ unread_by how ≡ replicate pieces Pairs
 
@@ -176,7 +176,7 @@ pub record Ends (p : Plan) (rest : Told) (later : List PlanFile) (end : Ending) 
 -- what a part of a run comes to, of the files that are needed from there on
 pub record Comes (p : Plan) (needed_in : ℕ → List PlanFile) (es : List (Event PlanFile)) (how : Result Ending (Call PlanFile)) : Type 0 where
   pub rest : Told
-  pub parts : plan_told p ≡ told_by es ⊕ rest
+  pub split : plan_told p ≡ told_by es ⊕ rest
   pub pieces : ℕ
   pub later : List PlanFile
   pub files : needed_in pieces ≡ (files_read es ++ unread_by how) ++ later

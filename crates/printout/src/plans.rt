@@ -47,8 +47,8 @@ fn inspect_step<H: Host<File = PlanFile>>(
     ensures { RunsFromStep H.does H.fails draft tables.old.points tables.old.faces
         host.old result host.new }
 {
-    let n = host.fill(PlanFile::Step, &mut tables.moves)?;
-    match lay(&draft, &tables.moves[..n], &mut tables.points) {
+    let n = host.fill(PlanFile::Step, &mut tables.step)?;
+    match lay(&draft, &tables.step[..n], &mut tables.points) {
         Ok(()) => inspect_pairs(draft, tables, host),
         Err(fault) => tell_fault(host, fault.notice()),
     }

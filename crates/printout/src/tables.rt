@@ -26,12 +26,12 @@ pub struct Tables {
     pub(crate) points: [Point; POINTS],
     pub(crate) faces: [Face; FACES],
     pub(crate) text: [u8; TEXT],
-    pub(crate) moves: [u8; RECORD],
+    pub(crate) step: [u8; RECORD],
     pub(crate) pairs: [u8; PAIRS],
     ghost point_room: { length points ≡ point_limit },
     ghost face_room: { length faces ≡ face_limit },
     ghost text_room: { length text ≡ text_limit + 1 },
-    ghost record_room: { length moves ≡ record_limit + 1 },
+    ghost step_room: { length step ≡ record_limit + 1 },
     ghost whole_pairs: { length pairs % 4 ≡ 0 },
 }
 
@@ -42,7 +42,7 @@ impl Tables {
             points: [Point::default(); POINTS],
             faces: [Face::default(); FACES],
             text: [0; TEXT],
-            moves: [0; RECORD],
+            step: [0; RECORD],
             pairs: [0; PAIRS],
         }
     }

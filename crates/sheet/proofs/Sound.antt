@@ -10,7 +10,7 @@ use Rattle.sheet.specs.Checks.{first_fit, check}
 use Rattle.sheet.specs.IsSheet.{IsResting, IsTriangle, IsSheet}
 use Rattle.sheet.specs.Lines.{Fields, Content, skipped, point, face, no_start, content_of}
 use Rattle.sheet.specs.Numerals.{value_of}
-use Rattle.sheet.specs.Sheet.{names_point, point_named, point_checks, face_checks, content_checks, point_from, face_from, element_from, element_of, point_row, face_row, points_in, faces_in, counting, has_room, line_checks, lines_checks, none, point_limit, face_limit}
+use Rattle.sheet.specs.Sheet.{names_point, point_named, point_checks, face_checks, content_checks, point_from, face_from, element_from, element_of, point_row, face_row, points_in, faces_in, counting, has_room, line_checks, lines_checks, no_rows, point_limit, face_limit}
 use Rattle.sheet.specs.declared.counts.RowCounts.{RowCounts}
 use Rattle.sheet.specs.declared.notices.Layer.TheVariants.{Sheet}
 use Rattle.sheet.specs.declared.rows.Point.{Point}
@@ -77,16 +77,16 @@ says : (room above : RowCounts) (ls : List (ℕ × List ℕ)) → first_fit (lin
 says room above [] e =
     record { point_count = λ h. omega arith; face_count = λ h. omega arith; resting = all_none IsResting; triangles = λ n q. all_none (IsTriangle n) }
 says room above (l ∷ ls) e =
-    let parts = none_parts (line_checks room above l) _ e in
-    let line = none_parts (content_checks l.0 above.points (content_of l.1)) _ parts.0 in
+    let both = none_parts (line_checks room above l) _ e in
+    let line = none_parts (content_checks l.0 above.points (content_of l.1)) _ both.0 in
     let place = none_fits (check (not (has_room room above (element_of l.1))) 7 Sheet l.0 0 ∷ []) line.1 in
-    by_content room above l.0 (content_of l.1) (points_in ls) (faces_in ls) line.0 (not-false _ place.0) (says room (counting above (element_of l.1)) ls parts.1)
+    by_content room above l.0 (content_of l.1) (points_in ls) (faces_in ls) line.0 (not-false _ place.0) (says room (counting above (element_of l.1)) ls both.1)
 
 -- A SHEET
 
-pub sound : (room : RowCounts) (ls : List (ℕ × List ℕ)) (points : List Point) (faces : List Face) → room.points ≤ point_limit → room.faces ≤ face_limit → None ≡ first_fit (lines_checks room none ls) → points ≡ points_in ls → faces ≡ faces_in ls → IsSheet points faces
+pub sound : (room : RowCounts) (ls : List (ℕ × List ℕ)) (points : List Point) (faces : List Face) → room.points ≤ point_limit → room.faces ≤ face_limit → None ≡ first_fit (lines_checks room no_rows ls) → points ≡ points_in ls → faces ≡ faces_in ls → IsSheet points faces
 sound room ls points faces h k e p q =
-    let s = says room none ls (sym e) in
+    let s = says room no_rows ls (sym e) in
     let sheet : IsSheet (points_in ls) (faces_in ls)
     = record {
       point_count = omega (arith, s.point_count (omega arith));

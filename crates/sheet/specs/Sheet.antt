@@ -121,8 +121,8 @@ points_in ls = flat_map (λ l. point_row (element_of l.1)) ls
 abbrev pub faces_in : List (ℕ × List ℕ) → List Face
 faces_in ls = flat_map (λ l. face_row (element_of l.1)) ls
 
-abbrev pub none : RowCounts
-none = record { points = 0; faces = 0 }
+abbrev pub no_rows : RowCounts
+no_rows = record { points = 0; faces = 0 }
 
 -- what stands above a line, and what the line says
 abbrev pub counting : RowCounts → Element → RowCounts
@@ -157,7 +157,7 @@ room_in points faces = record { points = min points point_limit; faces = min fac
 abbrev pub sheet_checks : List ℕ → ℕ → ℕ → List Check
 sheet_checks text points faces =
     check (nat_lt text_limit (length text)) 6 Sheet 0 0
-    ∷ lines_checks (room_in points faces) none (numbered text)
+    ∷ lines_checks (room_in points faces) no_rows (numbered text)
 
 -- the draft of a text that passes them
 abbrev pub draft_of : List ℕ → Draft

@@ -7,7 +7,7 @@ ghost use Rattle.sheet.specs.IsSheet.{IsSheet};
 ghost use Rattle.sheet.specs.Lines.{numbered};
 ghost use Rattle.sheet.specs.Numbered.{line_read};
 ghost use Rattle.sheet.specs.Passes.{total, with_point, with_face};
-ghost use Rattle.sheet.specs.Sheet.{text_limit, none, line_checks, lines_checks, sheet_checks, has_room, element_of, points_in, faces_in, draft_of, onto_front};
+ghost use Rattle.sheet.specs.Sheet.{text_limit, no_rows, line_checks, lines_checks, sheet_checks, has_room, element_of, points_in, faces_in, draft_of, onto_front};
 
 use crate::counts::RowCounts;
 use crate::drafts::Draft;
@@ -56,8 +56,8 @@ pub fn read_sheet(
 fn survey(text: &[u8], room: RowCounts) -> Result<RowCounts, SheetFault>
     requires { length text.now ≤ text_limit }
     ensures fault { fault_notice notice_of_sheet result
-        ≡ first_fit (lines_checks room none (numbered text.now)) }
-    ensures counts { IfOk result (λ c. c ≡ total none (numbered text.now)) }
+        ≡ first_fit (lines_checks room no_rows (numbered text.now)) }
+    ensures counts { IfOk result (λ c. c ≡ total no_rows (numbered text.now)) }
 {
     let mut above = RowCounts::NONE;
     for line in lines_in(text) {
@@ -72,7 +72,7 @@ fn fill(text: &[u8], room: RowCounts, points: &mut [Point], faces: &mut [Face])
     requires short { length text.now ≤ text_limit }
     requires point_room { room.points ≤ length points.old }
     requires face_room { room.faces ≤ length faces.old }
-    requires good { first_fit (lines_checks room none (numbered text.now)) ≡ None }
+    requires good { first_fit (lines_checks room no_rows (numbered text.now)) ≡ None }
     ensures points { points.new ≡ onto_front (points_in (numbered text.now)) points.old }
     ensures faces { faces.new ≡ onto_front (faces_in (numbered text.now)) faces.old }
 {

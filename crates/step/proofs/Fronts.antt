@@ -101,8 +101,8 @@ rows_length i [] bs e =
     let zero : length bs ≡ 0 = eqb-true (length bs) 0 (not-false (length bs == 0) none.0) in
     omega (arith, zero)
 rows_length i (p ∷ ps) bs e =
-    let parts = none_parts (row_checks i p bs) (rows_checks (i + 1) ps (after_row bs)) e in
-    let more = rows_length (i + 1) ps (after_row bs) parts.1 in
+    let both = none_parts (row_checks i p bs) (rows_checks (i + 1) ps (after_row bs)) e in
+    let more = rows_length (i + 1) ps (after_row bs) both.1 in
     let row = row_length bs in
     omega (arith, more, row)
 

@@ -52,9 +52,9 @@ pub rows_only : (i : ℕ) (ps : List Point) (bs : List ℕ) → Bytes bs → fir
 rows_only i [] bs B g = (tt, no_more bs (no_fit (check (not (eqb (length bs) 0)) 12 layer.Step 0 0) [] g).0)
 rows_only i (p ∷ ps) bs B g =
     let q = with_end p bs in
-    let parts = none_parts (row_checks i p bs) (rows_checks (i + 1) ps (after_row bs)) g in
-    let o = row_only i p bs B parts.0 in
-    let more = rows_only (i + 1) ps (after_row bs) o.rest parts.1 in (
+    let both = none_parts (row_checks i p bs) (rows_checks (i + 1) ps (after_row bs)) g in
+    let o = row_only i p bs B both.0 in
+    let more = rows_only (i + 1) ps (after_row bs) o.rest both.1 in (
       (refl, o.ranges, more.0),
       ap (λ m. moves_record m ++ record_of (with_ends ps (after_row bs))) (moves_are p q refl o.ranges)
           ∙ ap (λ r. moves_record (distance (counted p.start) (end_of p bs)) ++ r) more.1

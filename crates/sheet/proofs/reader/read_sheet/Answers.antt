@@ -1,7 +1,7 @@
 use Rattle.std.proofs.Common.{◌≡◌, length, take, drop, refl, zero-add, arith}
 use Rattle.std.proofs.lemmas.List.{take_at}
 use Rattle.sheet.specs.Lines.{numbered}
-use Rattle.sheet.specs.Sheet.{none, points_in, faces_in}
+use Rattle.sheet.specs.Sheet.{no_rows, points_in, faces_in}
 use Rattle.sheet.specs.declared.counts.RowCounts.{RowCounts}
 use Rattle.sheet.proofs.Sound.{sound}
 use Rattle.sheet.proofs.Walking.{counts_are}
@@ -9,7 +9,7 @@ use Rattle.sheet.proofs.reader.read_sheet.Goals as goal
 
 pub returns-clause-draft : goal.returns-clause-draft
 returns-clause-draft c =
-    let k = counts_are none (numbered c.args.text.now) in
+    let k = counts_are no_rows (numbered c.args.text.now) in
     rw (c.new.ensures, c.in_ok-counts.ensures.counts, k.0, k.1, zero-add, zero-add) refl
 
 pub returns-clause-meaning : goal.returns-clause-meaning

@@ -2,7 +2,7 @@ use Rattle.std.proofs.Common.{ap, ◌∙◌}
 use Rattle.filters.specs.Boxes.{coordinate}
 use Rattle.filters.specs.Spans.{sides, parted}
 use Rattle.filters.proofs.Extents.{parted-is}
-use Rattle.filters.proofs.boxes.Axis.parts.Goals as goal
+use Rattle.filters.proofs.boxes.Axis.separates.Goals as goal
 
 pub returns : goal.returns
 returns c =

@@ -1,7 +1,7 @@
 use Rattle.std.proofs.Common.{◌∙◌}
 use Rattle.filters.specs.Spans.{stay_parted}
 use Rattle.filters.proofs.Pairwise.{stay-is}
-use Rattle.filters.proofs.slabs.parts.Goals as goal
+use Rattle.filters.proofs.slabs.separates.Goals as goal
 
 pub returns : goal.returns
 returns c =
