@@ -38,3 +38,10 @@ fits_none (c ∷ cs) (e, h) = rw e (fits_none cs h)
 pub none_fits : (cs : List Check) → first_fit cs ≡ None → NoneFits cs
 none_fits [] e = tt
 none_fits (c ∷ cs) e = let p = no_fit c cs e in (p.0, none_fits cs p.1)
+
+-- of three in a row the second fits, or the third
+pub second_fits : (a b c : List Check) (n : Notice) → None ≡ first_fit a → Some n ≡ first_fit b → Some n ≡ first_fit (a ++ (b ++ c))
+second_fits a b c n e f = stop b c n f ∙ past a (b ++ c) e
+
+pub third_fits : (a b c : List Check) (n : Notice) → None ≡ first_fit a → None ≡ first_fit b → Some n ≡ first_fit c → Some n ≡ first_fit (a ++ (b ++ c))
+third_fits a b c n e f g = g ∙ past b c f ∙ past a (b ++ c) e

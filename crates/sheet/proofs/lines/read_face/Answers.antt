@@ -1,7 +1,7 @@
-use Rattle.std.proofs.Common.{[], ◌∷◌, ◌++◌, refl}
+use Rattle.std.proofs.Common.{[], ◌∷◌}
 use Rattle.std.proofs.lemmas.Result.{err_from_is_err_and}
 use Rattle.sheet.specs.Sheet.{spot, corner_checks, point_named}
-use Rattle.sheet.proofs.FirstFit.{first_fit_append}
+use Rattle.sheet.proofs.FirstFit.{second_fits, third_fits}
 use Rattle.sheet.proofs.lines.read_face.Goals as goal
 
 pub returns-in_err-b-clause-fault : goal.returns-in_err-b-clause-fault
@@ -13,7 +13,7 @@ returns-in_err-b-clause-fault c =
     let b = corner_checks c.args.points (spot c.args.line 2) (point_named f.first.now ∷ []) f.second.now in
     let third = corner_checks c.args.points (spot c.args.line 3) (point_named f.first.now ∷ (point_named f.second.now ∷ [])) f.third.now in
     let told = rw c.in_ok-a.ensures.named at c.in_err-b.ensures.fault in
-    rw (p.1, p.2, ← s.first, ← s.second, ← s.third, first_fit_append a (b ++ third), ← c.in_ok-a.ensures.fault, first_fit_append b third, ← told) refl
+    rw (p.1, p.2, ← s.first, ← s.second, ← s.third) (second_fits a b third _ c.in_ok-a.ensures.fault told)
 
 pub returns-in_err-c-clause-fault : goal.returns-in_err-c-clause-fault
 returns-in_err-c-clause-fault c =
@@ -25,4 +25,4 @@ returns-in_err-c-clause-fault c =
     let third = corner_checks c.args.points (spot c.args.line 3) (point_named f.first.now ∷ (point_named f.second.now ∷ [])) f.third.now in
     let passed = rw c.in_ok-a.ensures.named at c.in_ok-b.ensures.fault in
     let told = rw (c.in_ok-a.ensures.named, c.in_ok-b.ensures.named) at c.in_err-c.ensures.fault in
-    rw (p.1, p.2, ← s.first, ← s.second, ← s.third, first_fit_append a (b ++ third), ← c.in_ok-a.ensures.fault, first_fit_append b third, ← passed, ← told) refl
+    rw (p.1, p.2, ← s.first, ← s.second, ← s.third) (third_fits a b third _ c.in_ok-a.ensures.fault passed told)
