@@ -1,5 +1,5 @@
 -- The lines of a text and the fields of a line.
-use Rattle.std.specs.Prelude.{ℕ, Bool, false, if◌then◌else◌, List, [], ◌∷◌, ◌==◌}
+use Rattle.std.specs.Prelude.{ℕ, if◌then◌else◌, List, [], ◌∷◌, ◌==◌}
 use Rattle.std.specs.List.{before_first, after_first, onto_first, enumerate_from}
 use Rattle.sheet.specs.Bytes.{line_feed, space, hash, letter_f, letter_v}
 
@@ -35,10 +35,6 @@ pub data Content : Type 0 where
   point : Fields → Content
   face : Fields → Content
   no_start : Content
-
-abbrev pub starts_with_space : List ℕ → Bool
-starts_with_space [] = false
-starts_with_space (b ∷ bs) = b == space
 
 abbrev pub after_space : (Fields → Content) → List ℕ → Content
 after_space kind [] = no_start

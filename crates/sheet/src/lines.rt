@@ -1,12 +1,10 @@
 // What one line says.
-ghost use Rattle.std.specs.Prelude.{◌≡◌, ◌∷◌, MatchResult, IfOk, IsFalse};
-ghost use Rattle.sheet.specs.Bytes.{space};
+ghost use Rattle.std.specs.Prelude.{◌≡◌, IfOk};
 ghost use Rattle.sheet.specs.Checks.{first_fit, fault_notice};
 ghost use Rattle.sheet.specs.Faults.{notice_of_line};
-ghost use Rattle.sheet.specs.Lines.{content_of, fields_of, starts_with_space};
+ghost use Rattle.sheet.specs.Lines.{content_of, fields_of};
 ghost use Rattle.sheet.specs.Numerals.{value_of};
 ghost use Rattle.sheet.specs.Sheet.{coordinate_checks, corner_checks, point_checks, face_checks, content_checks, spot, point_named, point_from, face_from, element_of};
-ghost use Rattle.sheet.specs.declared.faults.LineFault.TheVariants.{NoSuchStart};
 
 use crate::faults::{LineFault, Spot};
 use crate::fields::{number, split_fields};
@@ -29,28 +27,14 @@ pub(crate) fn read_line(line: Line<'_>, points: u16) -> Result<Element, LineFaul
     ensures element { IfOk result (λ e. e ≡ element_of line.entry.bytes.now) }
 {
     let number = line.number;
-    let [letter, rest @ ..] = line.bytes else {
-        return Ok(Element::Nothing);
-    };
-    match *letter as char {
-        '#' => Ok(Element::Nothing),
-        'v' => Ok(Element::Point(read_point(after_space(rest, number)?, number)?)),
-        'f' => Ok(Element::Face(read_face(after_space(rest, number)?, number, points)?)),
+    match line.bytes {
+        [] | [b'#', ..] => Ok(Element::Nothing),
+        [b'v', b' ', fields @ ..] => Ok(Element::Point(read_point(fields, number)?)),
+        [b'f', b' ', fields @ ..] => Ok(Element::Face(read_face(fields, number, points)?)),
         _ => Err(LineFault::NoSuchStart(Spot {
             line: number,
             field: 0,
         })),
-    }
-}
-
-/// What follows the space at the front of `rest`, in the line `line`.
-fn after_space(rest: &[u8], line: u32) -> Result<&[u8], LineFault>
-    ensures { MatchResult result (λ s. rest.now ≡ space ∷ s.now)
-        (λ e. IsFalse (starts_with_space rest.now) × (e ≡ NoSuchStart (spot line 0))) }
-{
-    match rest {
-        [b' ', fields @ ..] => Ok(fields),
-        _ => Err(LineFault::NoSuchStart(Spot { line, field: 0 })),
     }
 }
 
