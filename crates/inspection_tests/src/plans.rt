@@ -1,12 +1,15 @@
-// Small plans: a draft with its tables.
+// Small plans, and inspections of them.
 use filters::Filter;
-use inspection::{EeName, Inspection, List, Offering, Tally, VfName};
+use inspection::{
+    Counts, EeName, Inspection, List, OfferFault, Offering, OpeningFault, Tally, VfName,
+    WindowFault,
+};
+use motion::Kind;
 use sheet::{Coords, Draft, Face, Point, read_sheet};
+use std::process::Abort;
 use std::test::Fail;
 
-/// Both faces of a plan.
-pub(crate) const BOTH: Offering = Offering::Faces(0, 1);
-
+/// A draft with its tables.
 #[derive(Drop)]
 pub(crate) struct Plan {
     pub draft: Draft,
@@ -52,17 +55,132 @@ pub(crate) fn hinged() -> Result<Plan, Fail> {
     read("v 0 0 0\nv 4 0 0\nv 0 4 0\nv 4 4 0\nf 1 2 3\nf 2 4 3\n")
 }
 
-pub(crate) fn open<F: Filter + Drop>(
-    draft: Draft,
+/// An inspection of a plan, with the plan's tables and its lists over lent ones.
+///
+/// Its methods have no contracts: the tests compare what comes.
+#[derive(Drop)]
+pub(crate) struct Inspected<'t, F> {
+    points: [Point; 6],
+    faces: [Face; 2],
+    pub inspection: Inspection<F>,
+    vf: List<'t, VfName>,
+    ee: List<'t, EeName>,
+}
+
+/// Opens an inspection of a plan.
+pub(crate) fn open<'t, F: Filter + Drop>(
+    plan: Plan,
     filter: F,
     depth: u8,
-    vf: &mut List<'_, VfName>,
-    ee: &mut List<'_, EeName>,
-) -> Result<Inspection<F>, Fail> {
-    match Inspection::open(draft, filter, depth, vf, ee) {
-        Ok(inspection) => Ok(inspection),
+    vf_table: &'t mut [VfName],
+    ee_table: &'t mut [EeName],
+) -> Result<Inspected<'t, F>, Fail> {
+    let Plan {
+        draft,
+        points,
+        faces,
+    } = plan;
+    let mut vf = List::new(vf_table);
+    let mut ee = List::new(ee_table);
+    match Inspection::open(draft, filter, depth, &mut vf, &mut ee) {
+        Ok(inspection) => Ok(Inspected {
+            points,
+            faces,
+            inspection,
+            vf,
+            ee,
+        }),
         Err(_) => Err(Fail::new("the opening is refused")),
     }
+}
+
+impl<F: Filter + Drop> Inspected<'_, F> {
+    pub(crate) fn offer(&mut self, one: u16, other: u16) -> Result<(), OfferFault> {
+        let what = Offering::Faces(one, other);
+        self.inspection.offer(&self.points, &self.faces, &mut self.vf, &mut self.ee, what)
+    }
+
+    /// Offers two faces over other tables.
+    pub(crate) fn offer_over(
+        &mut self,
+        points: &[Point],
+        faces: &[Face],
+        what: Offering,
+    ) -> Result<(), OfferFault> {
+        self.inspection
+            .offer(points, faces, &mut self.vf, &mut self.ee, what)
+    }
+
+    pub(crate) fn counts(&self) -> Counts {
+        self.inspection.findings(&self.vf, &self.ee)
+    }
+
+    pub(crate) fn vf_entry(&self, entry: u32) -> Option<VfName> {
+        self.vf.get(entry as usize)
+    }
+
+    pub(crate) fn set_depth(&mut self, depth: u8) -> Result<(), OpeningFault> {
+        self.inspection.set_depth(depth)
+    }
+
+    pub(crate) fn expect_offer(
+        &mut self,
+        rt: &impl Abort,
+        one: u16,
+        other: u16,
+        answer: Result<(), OfferFault>,
+    ) {
+        assert_eq!(rt; self.offer(one, other), answer);
+    }
+
+    /// The lists have so many entries.
+    pub(crate) fn expect_lens(&self, rt: &impl Abort, vf: usize, ee: usize) {
+        assert_eq!(rt; self.vf.len(), vf);
+        assert_eq!(rt; self.ee.len(), ee);
+    }
+
+    pub(crate) fn expect_vf_entry(&self, rt: &impl Abort, entry: u32, name: VfName) {
+        assert_eq!(rt; self.vf_entry(entry), Some(name));
+    }
+
+    pub(crate) fn expect_counts(&self, rt: &impl Abort, vf: Tally, ee: Tally) {
+        assert_eq!(rt; self.counts(), Counts { vf, ee });
+    }
+
+    /// A VF entry has such a window.
+    pub(crate) fn expect_window(
+        &self,
+        rt: &impl Abort,
+        entry: u32,
+        window: Result<Option<(u8, u8)>, WindowFault>,
+    ) {
+        let found = self
+            .inspection
+            .window(&self.points, &self.faces, &self.vf, entry);
+        assert_eq!(rt; found, window);
+    }
+
+    /// The window of an entry over such tables is refused.
+    pub(crate) fn expect_window_fault(
+        &self,
+        rt: &impl Abort,
+        points: &[Point],
+        faces: &[Face],
+        kind: Kind,
+        entry: u32,
+        fault: WindowFault,
+    ) {
+        let found = match kind {
+            Kind::Vf => self.inspection.window(points, faces, &self.vf, entry),
+            Kind::Ee => self.inspection.window(points, faces, &self.ee, entry),
+        };
+        assert_eq!(rt; found, Err(fault));
+    }
+}
+
+/// As many places as two faces have tests.
+pub(crate) fn tables() -> ([VfName; 6], [EeName; 9]) {
+    ([VfName::default(); 6], [EeName::default(); 9])
 }
 
 /// Kept, struck, shared and repeated.

@@ -1,8 +1,8 @@
 // What is refused changes nothing.
 use crate::nothing::Nothing;
-use crate::plans::{BOTH, Plan, crossing, open, tally};
-use inspection::{Counts, EeName, Inspection, List, OfferFault, Offering, OpeningFault, VfName};
-use sheet::{Face, Point};
+use crate::plans::{Inspected, Plan, crossing, open, tables, tally};
+use inspection::{EeName, Inspection, List, OfferFault, Offering, OpeningFault, VfName};
+use sheet::{Draft, Face, Point};
 use std::process::Abort;
 use std::test::Fail;
 
@@ -14,25 +14,15 @@ fn refuses(
     pair: (u16, u16),
     fault: OfferFault,
 ) -> Result<(), Fail> {
-    let plan = crossing()?;
-    let (mut vf_table, mut ee_table) = ([VfName::default(); 9], [EeName::default(); 12]);
-    let mut vf = List::new(&mut vf_table);
-    let mut ee = List::new(&mut ee_table);
-    let mut inspection = open(plan.draft, Nothing, 2, &mut vf, &mut ee)?;
-    let _ = inspection.offer(&plan.points, &plan.faces, &mut vf, &mut ee, BOTH);
-    let before = inspection.findings(&vf, &ee);
-    let answer = inspection.offer(
-        points,
-        faces,
-        &mut vf,
-        &mut ee,
-        Offering::Faces(pair.0, pair.1),
-    );
+    let (mut vf, mut ee) = ([VfName::default(); 9], [EeName::default(); 12]);
+    let mut inspected = open(crossing()?, Nothing, 2, &mut vf, &mut ee)?;
+    let _ = inspected.offer(0, 1);
+    let before = inspected.counts();
+    let answer = inspected.offer_over(points, faces, Offering::Faces(pair.0, pair.1));
     assert_eq!(rt; answer, Err(fault));
-    assert_eq!(rt; inspection.findings(&vf, &ee), before);
-    assert_eq!(rt; (vf.len(), ee.len()), (6, 9));
-    let (point, face) = (3, 0);
-    assert_eq!(rt; vf.get(3), Some(VfName { point, face }));
+    inspected.expect_counts(rt, before.vf, before.ee);
+    inspected.expect_lens(rt, 6, 9);
+    inspected.expect_vf_entry(rt, 3, VfName { point: 3, face: 0 });
     Ok(())
 }
 
@@ -67,45 +57,43 @@ fn offers(rt: HostRuntime) -> Result<(), Fail> {
 
 #[test]
 fn a_million_and_one(rt: HostRuntime) -> Result<(), Fail> {
-    let plan = crossing()?;
-    let (mut vf_table, mut ee_table) = ([VfName::default(); 6], [EeName::default(); 9]);
-    let mut vf = List::new(&mut vf_table);
-    let mut ee = List::new(&mut ee_table);
-    let mut inspection = open(plan.draft, Nothing, 0, &mut vf, &mut ee)?;
+    let (mut vf, mut ee) = tables();
+    let mut inspected = open(crossing()?, Nothing, 0, &mut vf, &mut ee)?;
     for _ in 0..1_000_000 {
-        let answer = inspection.offer(&plan.points, &plan.faces, &mut vf, &mut ee, BOTH);
-        assert_eq!(rt; answer, Ok(()));
+        inspected.expect_offer(&rt, 0, 1, Ok(()));
     }
-    let answer = inspection.offer(&plan.points, &plan.faces, &mut vf, &mut ee, BOTH);
-    assert_eq!(rt; answer, Err(OfferFault::TooManyOffers));
-    let counts = inspection.findings(&vf, &ee);
-    assert_eq!(rt;
-        counts,
-        Counts {
-            vf: tally(6, 0, 0, 5_999_994),
-            ee: tally(9, 0, 0, 8_999_991)
-        }
-    );
+    inspected.expect_offer(&rt, 0, 1, Err(OfferFault::TooManyOffers));
+    inspected.expect_counts(&rt, tally(6, 0, 0, 5_999_994), tally(9, 0, 0, 8_999_991));
     Ok(())
+}
+
+/// Opens at a depth that is refused: the fault, and the draft that comes back.
+fn refused_opening(draft: Draft, depth: u8) -> Result<(OpeningFault, Draft), Fail> {
+    let (mut vf, mut ee) = tables();
+    match Inspection::open(
+        draft,
+        Nothing,
+        depth,
+        &mut List::new(&mut vf),
+        &mut List::new(&mut ee),
+    ) {
+        Ok(_) => Err(Fail::new("the opening is not refused")),
+        Err(refused) => Ok((refused.fault, refused.draft)),
+    }
 }
 
 #[test]
 fn depths(rt: HostRuntime) -> Result<(), Fail> {
-    let plan = crossing()?;
-    let (mut vf_table, mut ee_table) = ([VfName::default(); 6], [EeName::default(); 9]);
-    let mut vf = List::new(&mut vf_table);
-    let mut ee = List::new(&mut ee_table);
-    let draft = match Inspection::open(plan.draft, Nothing, 7, &mut vf, &mut ee) {
-        Ok(_) => return Err(Fail::new("depth 7 is open")),
-        Err(refused) => {
-            assert_eq!(rt; refused.fault, OpeningFault::TooDeep(7));
-            refused.draft
-        }
-    };
-    let mut inspection = open(draft, Nothing, 6, &mut vf, &mut ee)?;
-    assert_eq!(rt; inspection.set_depth(7), Err(OpeningFault::TooDeep(7)));
-    assert_eq!(rt; inspection.set_depth(6), Ok(()));
-    let _ = inspection.offer(&plan.points, &plan.faces, &mut vf, &mut ee, BOTH);
+    let mut plan = crossing()?;
+    let (fault, draft) = refused_opening(plan.draft, 7)?;
+    assert_eq!(rt; fault, OpeningFault::TooDeep(7));
+    plan.draft = draft;
+    let (mut vf, mut ee) = tables();
+    let mut inspected = open(plan, Nothing, 6, &mut vf, &mut ee)?;
+    assert_eq!(rt; inspected.set_depth(7), Err(OpeningFault::TooDeep(7)));
+    assert_eq!(rt; inspected.set_depth(6), Ok(()));
+    let _ = inspected.offer(0, 1);
+    let Inspected { inspection, .. } = inspected;
     let closed = inspection.close();
     assert_eq!(rt; closed.counts().vf, tally(6, 0, 0, 0));
     let (draft, _filter) = closed.into_draft();

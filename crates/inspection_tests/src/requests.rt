@@ -1,9 +1,7 @@
 // Requests that are worked through.
-use crate::plans::{crossing, tally};
+use crate::plans::{crossing, tables, tally};
 use filters::DELIVERED;
-use inspection::{
-    Answer, EeName, List, OfferFault, Offering, OpeningFault, Request, VfName, inspect,
-};
+use inspection::{Answer, List, OfferFault, Offering, OpeningFault, Request, Tally, inspect};
 use motion::Kind;
 use std::test::Fail;
 
@@ -19,14 +17,13 @@ const REQUESTS: [Request; 7] = [
 
 const UNANSWERED: Answer = Answer::Window(Ok(None));
 
-#[test]
-fn in_any_mix(rt: HostRuntime) -> Result<(), Fail> {
+/// What comes of the requests: how many are answered, and the VF tests.
+fn work_through(requests: &[Request], answers: &mut [Answer]) -> Result<(usize, Tally), Fail> {
     let plan = crossing()?;
-    let (mut vf_table, mut ee_table) = ([VfName::default(); 6], [EeName::default(); 9]);
+    let (mut vf_table, mut ee_table) = tables();
     let mut vf = List::new(&mut vf_table);
     let mut ee = List::new(&mut ee_table);
-    let mut answers = [UNANSWERED; 6];
-    let worked = match inspect(
+    match inspect(
         plan.draft,
         DELIVERED,
         2,
@@ -34,19 +31,25 @@ fn in_any_mix(rt: HostRuntime) -> Result<(), Fail> {
         &plan.faces,
         &mut vf,
         &mut ee,
-        &REQUESTS,
-        &mut answers,
+        requests,
+        answers,
     ) {
-        Ok(worked) => worked,
-        Err(_) => return Err(Fail::new("the opening is refused")),
-    };
-    assert_eq!(rt; worked.answered, 6);
+        Ok(worked) => Ok((worked.answered, worked.inspection.findings(&vf, &ee).vf)),
+        Err(_) => Err(Fail::new("the opening is refused")),
+    }
+}
+
+#[test]
+fn in_any_mix(rt: HostRuntime) -> Result<(), Fail> {
+    let mut answers = [UNANSWERED; 6];
+    let (answered, vf) = work_through(&REQUESTS, &mut answers)?;
+    assert_eq!(rt; answered, 6);
     assert_eq!(rt; answers[0], Answer::Offered(Ok(())));
     assert_eq!(rt; answers[1], Answer::Offered(Err(OfferFault::SameFace(1))));
     assert_eq!(rt; answers[2], Answer::Window(Ok(Some((1, 2)))));
     assert_eq!(rt; answers[3], Answer::DepthSet(Err(OpeningFault::TooDeep(7))));
     assert_eq!(rt; answers[4], Answer::DepthSet(Ok(())));
     assert_eq!(rt; answers[5], Answer::Window(Ok(Some((31, 32)))));
-    assert_eq!(rt; worked.inspection.findings(&vf, &ee).vf, tally(1, 5, 0, 0));
+    assert_eq!(rt; vf, tally(1, 5, 0, 0));
     Ok(())
 }

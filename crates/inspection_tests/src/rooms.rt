@@ -1,7 +1,7 @@
 // Lists with just enough places, and with one too few.
 use crate::nothing::Nothing;
-use crate::plans::{BOTH, crossing, open, tally};
-use inspection::{EeName, List, OfferFault, VfName};
+use crate::plans::{crossing, open, tables, tally};
+use inspection::{EeName, OfferFault, VfName};
 use std::process::Abort;
 use std::test::Fail;
 
@@ -12,30 +12,19 @@ fn offer_to(
     vf_table: &mut [VfName],
     ee_table: &mut [EeName],
 ) -> Result<Result<(), OfferFault>, Fail> {
-    let plan = crossing()?;
-    let mut vf = List::new(vf_table);
-    let mut ee = List::new(ee_table);
-    let mut inspection = open(plan.draft, Nothing, 6, &mut vf, &mut ee)?;
-    let answer = inspection.offer(&plan.points, &plan.faces, &mut vf, &mut ee, BOTH);
+    let mut inspected = open(crossing()?, Nothing, 6, vf_table, ee_table)?;
+    let answer = inspected.offer(0, 1);
     if answer.is_err() {
-        let counts = inspection.findings(&vf, &ee);
-        assert_eq!(rt;
-            (counts.vf, counts.ee),
-            (tally(0, 0, 0, 0), tally(0, 0, 0, 0))
-        );
-        assert!(rt; vf.is_empty() && ee.is_empty());
+        inspected.expect_counts(rt, tally(0, 0, 0, 0), tally(0, 0, 0, 0));
+        inspected.expect_lens(rt, 0, 0);
     }
     Ok(answer)
 }
 
 #[test]
 fn enough(rt: HostRuntime) -> Result<(), Fail> {
-    let answer = offer_to(
-        &rt,
-        &mut [VfName::default(); 6],
-        &mut [EeName::default(); 9],
-    )?;
-    assert_eq!(rt; answer, Ok(()));
+    let (mut vf, mut ee) = tables();
+    assert_eq!(rt; offer_to(&rt, &mut vf, &mut ee)?, Ok(()));
     Ok(())
 }
 

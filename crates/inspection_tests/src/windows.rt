@@ -1,89 +1,72 @@
 // Windows at several depths, and their refusals.
-use crate::plans::{BOTH, crossing, open, turning};
+use crate::plans::{Plan, crossing, open, tables, turning};
 use filters::DELIVERED;
-use inspection::{EeName, List, VfName, WindowFault};
+use inspection::{VfName, WindowFault};
+use motion::Kind;
 use sheet::Face;
 use std::test::Fail;
 
 #[test]
 fn at_depths(rt: HostRuntime) -> Result<(), Fail> {
-    let plan = crossing()?;
-    let (mut vf_table, mut ee_table) = ([VfName::default(); 6], [EeName::default(); 9]);
-    let mut vf = List::new(&mut vf_table);
-    let mut ee = List::new(&mut ee_table);
-    let mut inspection = open(plan.draft, DELIVERED, 2, &mut vf, &mut ee)?;
-    let _ = inspection.offer(&plan.points, &plan.faces, &mut vf, &mut ee, BOTH);
-    assert_eq!(rt;
-        inspection.window(&plan.points, &plan.faces, &vf, 0),
-        Ok(Some((1, 2)))
-    );
-    let _ = inspection.set_depth(6);
-    assert_eq!(rt;
-        inspection.window(&plan.points, &plan.faces, &vf, 0),
-        Ok(Some((31, 32)))
-    );
-    let _ = inspection.set_depth(0);
-    assert_eq!(rt;
-        inspection.window(&plan.points, &plan.faces, &vf, 0),
-        Ok(Some((0, 0)))
-    );
+    let (mut vf, mut ee) = tables();
+    let mut inspected = open(crossing()?, DELIVERED, 2, &mut vf, &mut ee)?;
+    let _ = inspected.offer(0, 1);
+    inspected.expect_window(&rt, 0, Ok(Some((1, 2))));
+    let _ = inspected.set_depth(6);
+    inspected.expect_window(&rt, 0, Ok(Some((31, 32))));
+    let _ = inspected.set_depth(0);
+    inspected.expect_window(&rt, 0, Ok(Some((0, 0))));
     Ok(())
 }
 
 #[test]
 fn absent_where_deeper_strikes(rt: HostRuntime) -> Result<(), Fail> {
-    let plan = turning()?;
-    let (mut vf_table, mut ee_table) = ([VfName::default(); 6], [EeName::default(); 9]);
-    let mut vf = List::new(&mut vf_table);
-    let mut ee = List::new(&mut ee_table);
-    let mut inspection = open(plan.draft, DELIVERED, 0, &mut vf, &mut ee)?;
-    let _ = inspection.offer(&plan.points, &plan.faces, &mut vf, &mut ee, BOTH);
+    let (mut vf, mut ee) = tables();
+    let mut inspected = open(turning()?, DELIVERED, 0, &mut vf, &mut ee)?;
+    let _ = inspected.offer(0, 1);
     let mut entry = 6;
     for i in 0..6u32 {
-        if vf.get(i as usize) == Some(VfName { point: 3, face: 0 }) {
+        if inspected.vf_entry(i) == Some(VfName { point: 3, face: 0 }) {
             entry = i;
         }
     }
-    assert_eq!(rt;
-        inspection.window(&plan.points, &plan.faces, &vf, entry),
-        Ok(Some((0, 0)))
-    );
-    let _ = inspection.set_depth(1);
-    assert_eq!(rt;
-        inspection.window(&plan.points, &plan.faces, &vf, entry),
-        Ok(None)
-    );
+    inspected.expect_window(&rt, entry, Ok(Some((0, 0))));
+    let _ = inspected.set_depth(1);
+    inspected.expect_window(&rt, entry, Ok(None));
     Ok(())
 }
 
 #[test]
 fn refused(rt: HostRuntime) -> Result<(), Fail> {
-    let mut plan = crossing()?;
-    let (mut vf_table, mut ee_table) = ([VfName::default(); 6], [EeName::default(); 9]);
-    let mut vf = List::new(&mut vf_table);
-    let mut ee = List::new(&mut ee_table);
-    let mut inspection = open(plan.draft, DELIVERED, 2, &mut vf, &mut ee)?;
-    let _ = inspection.offer(&plan.points, &plan.faces, &mut vf, &mut ee, BOTH);
-    assert_eq!(rt;
-        inspection.window(&plan.points[..5], &plan.faces, &vf, 0),
-        Err(WindowFault::TableTooShort)
+    let Plan {
+        draft: _draft,
+        points,
+        mut faces,
+    } = crossing()?;
+    let (mut vf, mut ee) = tables();
+    let mut inspected = open(crossing()?, DELIVERED, 2, &mut vf, &mut ee)?;
+    let _ = inspected.offer(0, 1);
+    let too_short = WindowFault::TableTooShort;
+    inspected.expect_window_fault(&rt, &points[..5], &faces, Kind::Vf, 0, too_short);
+    inspected.expect_window_fault(&rt, &points, &faces[..1], Kind::Ee, 0, too_short);
+    inspected.expect_window_fault(
+        &rt,
+        &points,
+        &faces,
+        Kind::Vf,
+        1,
+        WindowFault::NoSuchEntry(1),
     );
-    assert_eq!(rt;
-        inspection.window(&plan.points, &plan.faces[..1], &ee, 0),
-        Err(WindowFault::TableTooShort)
+    inspected.expect_window_fault(
+        &rt,
+        &points,
+        &faces,
+        Kind::Ee,
+        0,
+        WindowFault::NoSuchEntry(0),
     );
-    assert_eq!(rt;
-        inspection.window(&plan.points, &plan.faces, &vf, 1),
-        Err(WindowFault::NoSuchEntry(1))
-    );
-    assert_eq!(rt;
-        inspection.window(&plan.points, &plan.faces, &ee, 0),
-        Err(WindowFault::NoSuchEntry(0))
-    );
-    plan.faces[0] = Face { a: 0, b: 1, c: 6 };
-    assert_eq!(rt;
-        inspection.window(&plan.points, &plan.faces, &vf, 0),
-        Err(WindowFault::NotOfTheSheet(0))
-    );
+    faces[0] = Face { a: 0, b: 1, c: 6 };
+    let stray = WindowFault::NotOfTheSheet(0);
+    inspected.expect_window_fault(&rt, &points, &faces, Kind::Vf, 0, stray);
     Ok(())
 }
