@@ -9,20 +9,22 @@ const SHEET: &[u8] = b"v 0 0 0\nv 4 0 0\nv 0 4 0\nv 1 1 1\nv 1 1 9\nv 2 1 9\nf 1
 /// A corner of the second face sinks through the first.
 const SUNK: &[u8] = b"v 0 0 0\nv 4 0 0\nv 0 4 0\nv 1 1 -1\nv 1 1 9\nv 2 1 9\nf 1 2 3\nf 4 5 6\n";
 
-/// These calls were made, by their letters, these bytes were stored and printed, and this answered.
-fn comes(
+/// Where a call fails after so many that go well, these calls were made, by their letters, these
+/// bytes were stored and printed, and this answered.
+pub(crate) fn comes(
     alloc: Global,
     start: &[u8],
     end: &[u8],
+    well: usize,
     letters: &[u8],
     stored: &[u8],
     printed: &[u8],
-    answer: Recording,
+    answer: Result<Recording, Failure>,
 ) -> Result<(), Fail> {
     let mut tables = Tables::new();
-    let mut host = TestHost::new(alloc, start, end, 9);
+    let mut host = TestHost::new(alloc, start, end, well);
     let came = record_step(&mut tables, &mut host);
-    if came != Ok(answer) {
+    if came != answer {
         return Err(Fail::new("another answer"));
     }
     if host.log.letters.as_slice() != letters {
@@ -37,9 +39,22 @@ fn comes(
     Ok(())
 }
 
+/// Where all calls go well, these were made, these bytes were stored and printed, and this answered.
+fn ends(
+    alloc: Global,
+    start: &[u8],
+    end: &[u8],
+    letters: &[u8],
+    stored: &[u8],
+    printed: &[u8],
+    answer: Recording,
+) -> Result<(), Fail> {
+    comes(alloc, start, end, 9, letters, stored, printed, Ok(answer))
+}
+
 #[test]
 fn a_step_is_stored_and_then_told(rt: HostRuntime) -> Result<(), Fail> {
-    comes(
+    ends(
         rt.alloc(),
         SHEET,
         SUNK,
@@ -52,7 +67,7 @@ fn a_step_is_stored_and_then_told(rt: HostRuntime) -> Result<(), Fail> {
 
 #[test]
 fn a_faulty_first_frame_needs_no_second(rt: HostRuntime) -> Result<(), Fail> {
-    comes(
+    ends(
         rt.alloc(),
         b"v 1 2",
         SUNK,
@@ -65,7 +80,7 @@ fn a_faulty_first_frame_needs_no_second(rt: HostRuntime) -> Result<(), Fail> {
 
 #[test]
 fn a_faulty_second_frame_is_told(rt: HostRuntime) -> Result<(), Fail> {
-    comes(
+    ends(
         rt.alloc(),
         SHEET,
         b"v 0 0 0\nv 4 0 0\nf 1 1 2\n",
@@ -98,7 +113,7 @@ fn differences_are_told(rt: HostRuntime) -> Result<(), Fail> {
             b"the frames differ in face 0\n".as_slice(),
         ),
     ] {
-        comes(
+        ends(
             rt.alloc(),
             start,
             end,
@@ -114,7 +129,7 @@ fn differences_are_told(rt: HostRuntime) -> Result<(), Fail> {
 #[test]
 fn the_longest_text_is_read(rt: HostRuntime) -> Result<(), Fail> {
     let text = vec![in rt.alloc(); b'#'; 65536]?;
-    comes(
+    ends(
         rt.alloc(),
         text.as_slice(),
         b"",
@@ -128,7 +143,7 @@ fn the_longest_text_is_read(rt: HostRuntime) -> Result<(), Fail> {
 #[test]
 fn a_text_with_one_byte_more_is_too_long(rt: HostRuntime) -> Result<(), Fail> {
     let text = vec![in rt.alloc(); b'#'; 65537]?;
-    comes(
+    ends(
         rt.alloc(),
         text.as_slice(),
         b"",

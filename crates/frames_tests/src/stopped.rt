@@ -1,37 +1,34 @@
 // A call that fails stops the work, and what was done before stands.
-use crate::failing::{Failure, TestHost};
-use frames::{Tables, record_step};
+use crate::failing::Failure;
+use crate::recorded::comes;
+use std::alloc::Global;
 use std::test::Fail;
+
+/// Where a call fails after so many that go well, these calls were made, by their letters, these
+/// bytes were stored, and nothing was printed.
+fn stops(
+    alloc: Global,
+    start: &[u8],
+    end: &[u8],
+    well: usize,
+    letters: &[u8],
+    stored: &[u8],
+) -> Result<(), Fail> {
+    let failed = Err(Failure::Meant);
+    comes(alloc, start, end, well, letters, stored, b"", failed)
+}
 
 #[test]
 fn each_call_can_stop_it(rt: HostRuntime) -> Result<(), Fail> {
     let start = b"v 1 1 1\n";
     let end = b"v 1 1 -1\n";
-    for (fails_at, letters, stored) in [
-        (0, b"".as_slice(), b"".as_slice()),
-        (1, b"S".as_slice(), b"".as_slice()),
-        (2, b"SE".as_slice(), b"".as_slice()),
-        (3, b"SEs".as_slice(), b"\x04\xfe\xff".as_slice()),
-    ] {
-        let mut tables = Tables::new();
-        let mut host = TestHost::new(rt.alloc(), start, end, fails_at);
-        let came = record_step(&mut tables, &mut host);
-        assert!(rt; came == Err(Failure::Meant), "at {fails_at}");
-        assert!(rt; host.log.letters.as_slice() == letters, "at {fails_at}");
-        assert!(rt; host.stored.as_slice() == stored, "at {fails_at}");
-        assert!(rt; host.printed.is_empty(), "at {fails_at}");
-    }
-    Ok(())
+    stops(rt.alloc(), start, end, 0, b"", b"")?;
+    stops(rt.alloc(), start, end, 1, b"S", b"")?;
+    stops(rt.alloc(), start, end, 2, b"SE", b"")?;
+    stops(rt.alloc(), start, end, 3, b"SEs", b"\x04\xfe\xff")
 }
 
 #[test]
 fn a_fault_that_cannot_be_printed_stops_it(rt: HostRuntime) -> Result<(), Fail> {
-    let mut tables = Tables::new();
-    let mut host = TestHost::new(rt.alloc(), b"v 1 2", b"", 1);
-    let came = record_step(&mut tables, &mut host);
-    assert!(rt; came == Err(Failure::Meant));
-    assert!(rt; host.log.letters.as_slice() == b"S".as_slice());
-    assert!(rt; host.printed.is_empty());
-    assert!(rt; host.stored.is_empty());
-    Ok(())
+    stops(rt.alloc(), b"v 1 2", b"", 1, b"S", b"")
 }
