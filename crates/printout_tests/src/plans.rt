@@ -1,5 +1,5 @@
 // Plans in memory, and what is printed and stored of them.
-use printout::{Ending, Tables, inspect_bytes};
+use printout::{Ending, Inspected, Tables, inspect_bytes};
 use std::test::Fail;
 
 pub const SHEET: &[u8] =
@@ -26,6 +26,18 @@ const EDGE_SINKS: &[u8] = b"\x00\x00\x00\x04\xfe\xff\x04\xfe\xff\x04\xfe\xff";
 const EDGES_TOUCH: &[u8] =
     b"VF kept 0 struck 6 shared 0 repeated 0\nEE 0 1 3 4 1 2\nEE kept 1 struck 8 shared 0 repeated 0\n";
 
+/// Inspects a plan in memory, with tables of its own.
+pub fn inspect(
+    sheet: &[u8],
+    step: &[u8],
+    pairs: &[u8],
+    page: &mut [u8],
+    stored: &mut [u8],
+) -> Inspected {
+    let mut tables = Tables::new();
+    inspect_bytes(&mut tables, sheet, step, pairs, page, stored)
+}
+
 /// The run prints this text, stores these pairs, and ends so.
 fn comes(
     sheet: &[u8],
@@ -35,10 +47,9 @@ fn comes(
     refused: &[u8],
     ending: Ending,
 ) -> Result<(), Fail> {
-    let mut tables = Tables::new();
     let mut page = [0; 256];
     let mut stored = [0; 16];
-    let inspected = inspect_bytes(&mut tables, sheet, step, pairs, &mut page, &mut stored);
+    let inspected = inspect(sheet, step, pairs, &mut page, &mut stored);
     if inspected.ending != ending {
         return Err(Fail::new("another ending"));
     }
@@ -130,17 +141,10 @@ fn a_fault_of_the_step_ends_the_run() -> Result<(), Fail> {
 
 #[test]
 fn a_page_too_short_cuts_the_text_and_its_length_is_told(rt: HostRuntime) {
-    let mut tables = Tables::new();
+    let pairs = b"\x01\x00\x01\x00\x00\x00\x01\x00";
     let mut page = [0; 10];
     let mut stored = [7; 6];
-    let inspected = inspect_bytes(
-        &mut tables,
-        SHEET,
-        STEP,
-        b"\x01\x00\x01\x00\x00\x00\x01\x00",
-        &mut page,
-        &mut stored,
-    );
+    let inspected = inspect(SHEET, STEP, pairs, &mut page, &mut stored);
     assert!(rt; page.as_slice() == b"fault 18 o".as_slice());
     assert_eq!(rt; inspected.printed_len, ONE_TOUCH_AFTER_A_REFUSAL.len());
     assert!(rt; stored.as_slice() == b"\x01\x00\x01\x00\x07\x07".as_slice());
