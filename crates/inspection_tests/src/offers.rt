@@ -12,7 +12,7 @@ fn once_again_and_swapped(rt: HostRuntime) -> Result<(), Fail> {
     let mut inspected = open(crossing()?, DELIVERED, 2, &mut vf, &mut ee)?;
     inspected.expect_offer(&rt, 0, 1, Ok(()));
     inspected.expect_vf_entry(&rt, 0, VfName { point: 3, face: 0 });
-    assert_eq!(rt; inspected.counts().vf, tally(1, 5, 0, 0));
+    inspected.expect_counts(&rt, tally(1, 5, 0, 0), tally(0, 9, 0, 0));
     inspected.expect_offer(&rt, 0, 1, Ok(()));
     inspected.expect_offer(&rt, 1, 0, Ok(()));
     inspected.expect_lens(&rt, 1, 0);

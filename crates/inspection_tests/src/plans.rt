@@ -147,20 +147,32 @@ impl<F: Filter + Drop> Inspected<'_, F> {
         assert_eq!(rt; self.counts(), Counts { vf, ee });
     }
 
-    /// A VF entry has such a window.
+    /// The window of an entry over such tables.
+    fn window_over(
+        &self,
+        points: &[Point],
+        faces: &[Face],
+        kind: Kind,
+        entry: u32,
+    ) -> Result<Option<(u8, u8)>, WindowFault> {
+        match kind {
+            Kind::Vf => self.inspection.window(points, faces, &self.vf, entry),
+            Kind::Ee => self.inspection.window(points, faces, &self.ee, entry),
+        }
+    }
+
     pub(crate) fn expect_window(
         &self,
         rt: &impl Abort,
+        kind: Kind,
         entry: u32,
         window: Result<Option<(u8, u8)>, WindowFault>,
     ) {
-        let found = self
-            .inspection
-            .window(&self.points, &self.faces, &self.vf, entry);
+        let found = self.window_over(&self.points, &self.faces, kind, entry);
         assert_eq!(rt; found, window);
     }
 
-    /// The window of an entry over such tables is refused.
+    /// The window of an entry over other tables is refused.
     pub(crate) fn expect_window_fault(
         &self,
         rt: &impl Abort,
@@ -170,10 +182,7 @@ impl<F: Filter + Drop> Inspected<'_, F> {
         entry: u32,
         fault: WindowFault,
     ) {
-        let found = match kind {
-            Kind::Vf => self.inspection.window(points, faces, &self.vf, entry),
-            Kind::Ee => self.inspection.window(points, faces, &self.ee, entry),
-        };
+        let found = self.window_over(points, faces, kind, entry);
         assert_eq!(rt; found, Err(fault));
     }
 }

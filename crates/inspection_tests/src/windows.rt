@@ -11,11 +11,11 @@ fn at_depths(rt: HostRuntime) -> Result<(), Fail> {
     let (mut vf, mut ee) = tables();
     let mut inspected = open(crossing()?, DELIVERED, 2, &mut vf, &mut ee)?;
     let _ = inspected.offer(0, 1);
-    inspected.expect_window(&rt, 0, Ok(Some((1, 2))));
+    inspected.expect_window(&rt, Kind::Vf, 0, Ok(Some((1, 2))));
     let _ = inspected.set_depth(6);
-    inspected.expect_window(&rt, 0, Ok(Some((31, 32))));
+    inspected.expect_window(&rt, Kind::Vf, 0, Ok(Some((31, 32))));
     let _ = inspected.set_depth(0);
-    inspected.expect_window(&rt, 0, Ok(Some((0, 0))));
+    inspected.expect_window(&rt, Kind::Vf, 0, Ok(Some((0, 0))));
     Ok(())
 }
 
@@ -30,9 +30,9 @@ fn absent_where_deeper_strikes(rt: HostRuntime) -> Result<(), Fail> {
             entry = i;
         }
     }
-    inspected.expect_window(&rt, entry, Ok(Some((0, 0))));
+    inspected.expect_window(&rt, Kind::Vf, entry, Ok(Some((0, 0))));
     let _ = inspected.set_depth(1);
-    inspected.expect_window(&rt, entry, Ok(None));
+    inspected.expect_window(&rt, Kind::Vf, entry, Ok(None));
     Ok(())
 }
 
@@ -41,7 +41,7 @@ fn refused(rt: HostRuntime) -> Result<(), Fail> {
     let Plan {
         draft: _draft,
         points,
-        mut faces,
+        faces,
     } = crossing()?;
     let (mut vf, mut ee) = tables();
     let mut inspected = open(crossing()?, DELIVERED, 2, &mut vf, &mut ee)?;
@@ -49,24 +49,17 @@ fn refused(rt: HostRuntime) -> Result<(), Fail> {
     let too_short = WindowFault::TableTooShort;
     inspected.expect_window_fault(&rt, &points[..5], &faces, Kind::Vf, 0, too_short);
     inspected.expect_window_fault(&rt, &points, &faces[..1], Kind::Ee, 0, too_short);
+    inspected.expect_window(&rt, Kind::Vf, 1, Err(WindowFault::NoSuchEntry(1)));
+    inspected.expect_window(&rt, Kind::Ee, 0, Err(WindowFault::NoSuchEntry(0)));
+    let strays = Face { a: 0, b: 1, c: 6 };
+    let not_of_the_sheet = WindowFault::NotOfTheSheet(0);
     inspected.expect_window_fault(
         &rt,
         &points,
-        &faces,
+        &[strays, faces[1]],
         Kind::Vf,
-        1,
-        WindowFault::NoSuchEntry(1),
-    );
-    inspected.expect_window_fault(
-        &rt,
-        &points,
-        &faces,
-        Kind::Ee,
         0,
-        WindowFault::NoSuchEntry(0),
+        not_of_the_sheet,
     );
-    faces[0] = Face { a: 0, b: 1, c: 6 };
-    let stray = WindowFault::NotOfTheSheet(0);
-    inspected.expect_window_fault(&rt, &points, &faces, Kind::Vf, 0, stray);
     Ok(())
 }
