@@ -1,5 +1,5 @@
 // One field of a record: the move of one coordinate.
-ghost use Rattle.std.specs.Prelude.{◌≡◌, ◌+ℤ◌, ◌<◌, IfOk, if◌then◌else◌, Some, None};
+ghost use Rattle.std.specs.Prelude.{◌≡◌, ◌+ℤ◌, ◌<◌, true, IfOk, if◌then◌else◌, Some, None};
 ghost use Rattle.sheet.specs.Checks.{first_fit, fault_notice};
 ghost use Rattle.sheet.specs.Counted.{in_range};
 ghost use Rattle.step.specs.Faults.{notice_of_step};
@@ -26,6 +26,16 @@ pub(crate) fn read_field(
     if map / bit % 2 == 0 {
         return Ok((start, bytes));
     }
+    read_end(bytes, start, spot)
+}
+
+/// The end that the front of a record gives to a coordinate that moves, and the rest of the record.
+fn read_end(bytes: &[u8], start: i16, spot: Spot) -> Result<(i16, &[u8]), StepFault>
+    ensures fault { fault_notice notice_of_step result
+        ≡ first_fit (field_checks spot true start bytes.now) }
+    ensures end { IfOk result (λ p. p.0 ≡ end_in true start bytes.now) }
+    ensures rest { IfOk result (λ p. p.1.now ≡ after_field true bytes.now) }
+{
     let [low, high, rest @ ..] = bytes else {
         return Err(StepFault::EndsEarly(spot));
     };
@@ -43,7 +53,13 @@ pub(crate) fn read_field(
 fn moved(start: i16, by: i16) -> Option<i16>
     ensures { result ≡ (if in_range (start +ℤ by) then Some (start +ℤ by) else None) }
 {
-    let end = i32::from(start) + i32::from(by);
+    coordinate_at(i32::from(start) + i32::from(by))
+}
+
+/// The coordinate with this value, if that is in range.
+fn coordinate_at(end: i32) -> Option<i16>
+    ensures { result ≡ (if in_range end then Some end else None) }
+{
     if !in_range(end) {
         return None;
     }
