@@ -18,7 +18,7 @@ use crate::plan_files::PlanFile;
 use crate::tables::Tables;
 use filters::{Delivered, Filter, delivered_filter};
 use hosts::Host;
-use inspection::{EeName, Inspection, List, VfName};
+use inspection::{EeName, Entry, Inspection, List, VfName};
 use report::print_report;
 use sheet::{Draft, Face, Point};
 
@@ -83,7 +83,6 @@ fn read_piece<H: Host<File = PlanFile>>(pairs: &mut [u8], host: &mut H) -> Resul
 }
 
 /// The run after the step: the pairs are offered in their order, and then the report is printed.
-#[tactic(auto, using(crate::proofs::FileOfPairs::ran_in_part, crate::proofs::FileOfPairs::reportable, crate::proofs::FileOfPairs::ran))]
 pub(crate) fn inspect_pairs<H: Host<File = PlanFile>>(
     draft: Draft,
     tables: &mut Tables,
@@ -96,21 +95,49 @@ pub(crate) fn inspect_pairs<H: Host<File = PlanFile>>(
 {
     let mut vf_table = [VfName::default(); ROOM];
     let mut ee_table = [EeName::default(); ROOM];
-    let mut vf = List::new(&mut vf_table);
-    let mut ee = List::new(&mut ee_table);
+    let mut vf = list_over(&mut vf_table);
+    let mut ee = list_over(&mut ee_table);
     let mut inspection = open_plan(draft, &mut vf, &mut ee);
-    let points = &tables.points;
-    let faces = &tables.faces;
-    offer_file(
+    offer_and_report(
         &mut inspection,
-        points,
-        faces,
+        &tables.points,
+        &tables.faces,
         &mut vf,
         &mut ee,
         &mut tables.pairs,
         host,
-    )?;
-    print_found(&inspection, points, faces, &vf, &ee, host)
+    )
+}
+
+/// A list over a table that has room for all entries that a list may have.
+fn list_over<E: Entry>(table: &mut [E; ROOM]) -> List<'_, E>
+    ensures { length (without_entries (contents_of result)).rest ≡ room }
+{
+    List::new(table)
+}
+
+/// Offers the pairs of the plan's file to an inspection that is just opened, and prints what it has
+/// found then.
+#[tactic(auto, using(crate::proofs::FileOfPairs::ran_in_part, crate::proofs::FileOfPairs::reportable, crate::proofs::FileOfPairs::ran))]
+fn offer_and_report<H: Host<File = PlanFile>>(
+    inspection: &mut Inspection<Delivered>,
+    points: &[Point],
+    faces: &[Face],
+    vf: &mut List<'_, VfName>,
+    ee: &mut List<'_, EeName>,
+    pairs: &mut [u8],
+    host: &mut H,
+) -> Result<Ending, H::Error>
+    requires begins { Begins inspection.old.draft (state_of inspection.old vf.old ee.old) }
+    requires points { inspection.old.draft.points ≤ length points.now }
+    requires faces { inspection.old.draft.faces ≤ length faces.now }
+    requires some { 0 < length pairs.old }
+    requires whole { length pairs.old % 4 ≡ 0 }
+    ensures { RunsFromPairs H.does H.fails inspection.old.draft points.now faces.now
+        host.old result host.new }
+{
+    offer_file(inspection, points, faces, vf, ee, pairs, host)?;
+    print_found(inspection, points, faces, vf, ee, host)
 }
 
 /// Opens the inspection of a plan: it has made no step of its walk.
@@ -122,7 +149,8 @@ fn open_plan(
 ) -> Inspection<Delivered>
     requires vf { length (without_entries (contents_of vf.old)).rest ≡ room }
     requires ee { length (without_entries (contents_of ee.old)).rest ≡ room }
-    ensures { Begins draft (state_of result vf.new ee.new) }
+    ensures begins { Begins draft (state_of result vf.new ee.new) }
+    ensures draft { result.draft ≡ draft }
 {
     let Ok(inspection) = Inspection::open(draft, delivered_filter(), DEPTH, vf, ee) else {
         unreachable!()
