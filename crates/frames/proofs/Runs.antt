@@ -43,6 +43,7 @@ module _ {S E : Type 0} (does : S → Event FrameFile → S → Type 0) (fails :
   -- this comes of all texts that give what was read
   ends_so : (o : Outcome) → ((f : Frames) → ReadsFrames f reads → (outcome f ≡ o) × (needed f ≡ files_read reads))
       → Writes does fails (writes_of o) o.answer t r u → Records does fails s r u
+  unfolding Records
   ends_so o comes =
       worked_after does fails _ _ _ _ s t u reads r went
       (λ es x w f h.
@@ -65,6 +66,7 @@ module _ {S E : Type 0} (does : S → Event FrameFile → S → Type 0) (fails :
   -- the next file could not be read
   stops_at : (file : FrameFile) (e : E) → ((f : Frames) → ReadsFrames f reads → IsFront (files_read reads ++ (file ∷ [])) (needed f))
       → fails t (Reading file) e u → r ≡ Err e → Records does fails s r u
+  unfolding Records
   stops_at file e front failed is =
       rw is
       (record {

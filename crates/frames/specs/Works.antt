@@ -36,7 +36,7 @@ pub record StopsIn (f : Frames) (es : List (Event FrameFile)) (call : Call Frame
   pub files : IsFront (files_read es ++ unread call) (needed f)
 
 -- ---- all that it can come to
-abbrev pub Records : {S E : Type 0} → (S → Event FrameFile → S → Type 0)
+unfoldable pub Records : {S E : Type 0} → (S → Event FrameFile → S → Type 0)
     → (S → Call FrameFile → E → S → Type 0) → S → Result Recording E → S → Type 0
 Records does fails s r t =
     Worked does fails (λ es answer. (f : Frames) → ReadsFrames f es → EndsAs f es answer)

@@ -85,7 +85,7 @@ pub fn record_frames(
 }
 
 /// Records the step between two frames that are still to be read.
-#[tactic(auto, using(crate::proofs::InMemory::answered, hosts::proofs::Remembering::same_printed, hosts::proofs::Remembering::same_stored))]
+#[tactic(auto, using(crate::proofs::InMemory::answered, crate::proofs::InMemory::same_line, crate::proofs::InMemory::same_kept))]
 fn record_in(
     tables: &mut Tables,
     memory: &mut Memory<'_, '_, '_, '_, FrameTexts<'_, '_>>,
