@@ -182,6 +182,7 @@ module _ {S E : Type 0} (does : S → Event PlanFile → S → Type 0) (fails : 
   Whole es how = (p : Plan) → ReadsPlan p es → Comes p (needed p) es how
 
   inspects : (s t : S) (r : Result Ending E) → Ran does fails Whole s r t → Inspects does fails s r t
+  unfolding Inspects
   inspects s t r ran = ran_after does fails (λ es how. (p : Plan) → ReadsPlan p es → Settles p es how) Whole s s t [] nothing (λ es how comes p reads. settles p es how (comes p reads)) r ran
 
   pub sheet_unread : (s t : S) (e : E) (r : Result Ending E) → fails s (Reading Sheet) e t → r ≡ Err e → Inspects does fails s r t

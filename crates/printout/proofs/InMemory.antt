@@ -1,12 +1,12 @@
 -- What a plan in memory comes to.
-use Rattle.std.proofs.Common.{◌≡◌, ◌↔◌, ℕ, List, [], None, subst}
+use Rattle.std.proofs.Common.{◌≡◌, ◌↔◌, ℕ, List, [], None, Ok, subst}
 use Rattle.hosts.specs.Memory.{Remembers}
 use Rattle.hosts.specs.Pages.{Shows, Filled, NeverFails}
 use Rattle.hosts.specs.Works.{Finished}
 use Rattle.hosts.specs.declared.memories.Memory.{Memory}
-use Rattle.hosts.proofs.Remembering.{fits, printed_shown, stored_shown}
+use Rattle.hosts.proofs.Remembering.{fits, printed_shown, stored_shown, same_printed, same_stored}
 use Rattle.printout.specs.Memory.{left_in}
-use Rattle.printout.specs.Outcomes.{same_file, ReadsPlan, EndsWith}
+use Rattle.printout.specs.Outcomes.{same_file, ReadsPlan, EndsWith, Inspects}
 use Rattle.printout.specs.Plans.{Plan, bytes_of, fault, printout, ClaimOfPlan}
 use Rattle.printout.specs.declared.endings.Ending.{Ending}
 use Rattle.printout.specs.declared.endings.Ending.TheVariants.{Complete}
@@ -16,21 +16,31 @@ use Rattle.printout.specs.declared.plan_files.PlanFile.{PlanFile}
 abbrev bytes_left : PlanBytes → PlanFile → List ℕ
 bytes_left b = bytes_of (left_in b)
 
-module _ (m n : Memory PlanBytes) (end : Ending) (run : Finished (Remembers same_file bytes_left) NeverFails (λ es end. (p : Plan) → ReadsPlan p es → EndsWith p es end) m end n) where
-  ends : EndsWith (left_in m.files) run.events end
-  ends = run.good (left_in m.files) (fits same_file bytes_left m n run.events run.went)
+module _ (m n : Memory PlanBytes) (end : Ending) (run : Inspects (Remembers same_file bytes_left) NeverFails m (Ok end) n) where
+  went : Finished (Remembers same_file bytes_left) NeverFails (λ es end. (p : Plan) → ReadsPlan p es → EndsWith p es end) m end n
+  unfolding Inspects
+  went = run
+
+  ends : EndsWith (left_in m.files) went.events end
+  ends = went.good (left_in m.files) (fits same_file bytes_left m n went.events went.went)
 
   pub ended : end ≡ (printout (left_in m.files)).ending
   ended = ends.ending
 
   pub text_shown : Filled m.printed.now n.printed.now (printout (left_in m.files)).text
-  text_shown lent empty = subst (λ t. Shows lent t n.printed.now) ends.text (printed_shown same_file bytes_left m n run.events run.went lent [] empty)
+  text_shown lent empty = subst (λ t. Shows lent t n.printed.now) ends.text (printed_shown same_file bytes_left m n went.events went.went lent [] empty)
 
   pub refused_shown : Filled m.stored.now n.stored.now (printout (left_in m.files)).stored
-  refused_shown lent empty = subst (λ t. Shows lent t n.stored.now) ends.stored (stored_shown same_file bytes_left m n run.events run.went lent [] empty)
+  refused_shown lent empty = subst (λ t. Shows lent t n.stored.now) ends.stored (stored_shown same_file bytes_left m n went.events went.went lent [] empty)
 
   pub completed : (end ≡ Complete) ↔ (fault (left_in m.files) ≡ None)
   completed = ends.complete
 
   pub claimed : ClaimOfPlan (left_in m.files)
   claimed = ends.claim
+
+  pub same_page : n.printed.ghost_name ≡ m.printed.ghost_name
+  same_page = same_printed same_file bytes_left m _ n end went
+
+  pub same_refused : n.stored.ghost_name ≡ m.stored.ghost_name
+  same_refused = same_stored same_file bytes_left m _ n end went

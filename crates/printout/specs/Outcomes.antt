@@ -44,7 +44,7 @@ module _ (p : Plan) where
         → printed es ≡ refusal_lines (walked delivered (sheet p) (just_opened (draft p)) (offerings_in (came (same_file Pairs) es)))
 
 -- ---- all that a run can come to
-abbrev pub Inspects : {S E : Type 0} → (S → Event PlanFile → S → Type 0)
+unfoldable pub Inspects : {S E : Type 0} → (S → Event PlanFile → S → Type 0)
     → (S → Call PlanFile → E → S → Type 0) → S → Result Ending E → S → Type 0
 Inspects does fails s r t =
     Worked does fails (λ es ending. (p : Plan) → ReadsPlan p es → EndsWith p es ending)

@@ -90,7 +90,7 @@ pub fn inspect_bytes(
 }
 
 /// Inspects a plan that is still to be read.
-#[tactic(auto, using(crate::proofs::InMemory::ended, crate::proofs::InMemory::completed, hosts::proofs::Remembering::same_printed, hosts::proofs::Remembering::same_stored))]
+#[tactic(auto, using(crate::proofs::InMemory::ended, crate::proofs::InMemory::completed, crate::proofs::InMemory::same_page, crate::proofs::InMemory::same_refused))]
 fn inspect_in(
     tables: &mut Tables,
     memory: &mut Memory<'_, '_, '_, '_, PlanBytes<'_, '_, '_>>,
