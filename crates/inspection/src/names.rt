@@ -1,9 +1,8 @@
 // The names of tests.
 ghost use Rattle.std.specs.Prelude.{◌≡◌};
-ghost use Rattle.inspection.specs.Names.{edge_of, ee_name_of, name_in_order, ee_shared, is_corner, vf_same, vf_same_equiv, ee_same, ee_same_equiv};
+ghost use Rattle.inspection.specs.Names.{edge_of, ee_name_of, vf_same, vf_same_equiv, ee_same, ee_same_equiv};
 
 use crate::entries::Entry;
-use sheet::Face;
 
 /// A VF test, by its point and the number of its face.
 #[derive(Clone, Copy, Debug, Default, PartialEq, Eq)]
@@ -68,36 +67,16 @@ impl Edge {
     pub(crate) fn against(self, other: Edge) -> EeName
         ensures { result ≡ ee_name_of self other }
     {
-        if other.first < self.first {
-            return name_in_order(other, self);
+        let (one, two) = if other.first < self.first {
+            (other, self)
+        } else {
+            (self, other)
+        };
+        EeName {
+            u: one.first,
+            v: one.second,
+            k: two.first,
+            l: two.second,
         }
-        name_in_order(self, other)
     }
-}
-
-fn name_in_order(one: Edge, other: Edge) -> EeName
-    ensures { result ≡ name_in_order one other }
-{
-    EeName {
-        u: one.first,
-        v: one.second,
-        k: other.first,
-        l: other.second,
-    }
-}
-
-impl EeName {
-    /// Whether the edges have a common point.
-    pub(crate) fn has_common_point(self) -> bool
-        ensures { result ≡ ee_shared self }
-    {
-        self.u == self.k || self.u == self.l || self.v == self.k || self.v == self.l
-    }
-}
-
-/// Whether the point is a corner of the face.
-pub(crate) fn is_corner(point: u16, face: Face) -> bool
-    ensures { result ≡ is_corner point face }
-{
-    point == face.a || point == face.b || point == face.c
 }

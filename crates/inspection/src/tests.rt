@@ -5,7 +5,7 @@ ghost use Rattle.inspection.specs.Sheets.{Sheet, sheet_of_rows};
 ghost use Rattle.inspection.specs.Tests.{Naming, corners_below, vf_naming, ee_naming};
 
 use crate::entries::Entry;
-use crate::names::{EeName, VfName, is_corner};
+use crate::names::{EeName, VfName};
 use crate::sheets::Rows;
 use filters::Test;
 use motion::{Kind, Moving, Shape};
@@ -49,7 +49,8 @@ impl TestName for VfName {
     }
 
     fn is_shared(self, rows: Rows<'_>) -> bool {
-        is_corner(self.point, rows.face(self.face))
+        let Face { a, b, c } = rows.face(self.face);
+        self.point == a || self.point == b || self.point == c
     }
 
     fn test(self, rows: Rows<'_>) -> Test {
@@ -78,7 +79,7 @@ impl TestName for EeName {
     }
 
     fn is_shared(self, _rows: Rows<'_>) -> bool {
-        self.has_common_point()
+        self.u == self.k || self.u == self.l || self.v == self.k || self.v == self.l
     }
 
     fn test(self, rows: Rows<'_>) -> Test {
