@@ -31,7 +31,7 @@ module _
   abbrev sheet : Sheet
   sheet = sheet_in c.draft ps fs
 
-  abbrev pub window_checks : List Check
+  unfoldable pub window_checks : List Check
   window_checks =
       check (lacks_rows c.draft ps fs) 16 Window 0 0
       ∷ check (nat_le (length h.entries) i) 22 Window i 0

@@ -236,6 +236,7 @@ impl<F: Filter> Inspection<F> {
     ///
     /// In each part before the first and after the last the entry's features stay apart; where
     /// there is no window, they do so for the whole step.
+    #[tactic(auto, unfolding(crate::specs::Windows::window_checks))]
     pub fn window<E: TestName>(
         &self,
         points: &[Point],
