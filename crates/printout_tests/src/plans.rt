@@ -27,7 +27,7 @@ const EDGES_TOUCH: &[u8] =
     b"VF kept 0 struck 6 shared 0 repeated 0\nEE 0 1 3 4 1 2\nEE kept 1 struck 8 shared 0 repeated 0\n";
 
 /// Inspects a plan in memory, with tables of its own.
-pub fn inspect(
+pub(crate) fn inspect(
     sheet: &[u8],
     step: &[u8],
     pairs: &[u8],
