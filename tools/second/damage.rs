@@ -9,7 +9,7 @@ const MOST_POINTS: usize = 2048;
 const MOST_FACES: usize = 4096;
 
 /// Kinds of damage.
-const KINDS: usize = 15;
+const KINDS: usize = 16;
 
 /// Sheet, step and pairs; a missing file is none.
 pub type Files = [Option<Vec<u8>>; 3];
@@ -31,6 +31,7 @@ pub fn damage(dice: &mut Dice, turn: usize, mut plan: Plan) -> Files {
         11 => change_a_byte_of_step(dice, &mut plan.step),
         12 => move_out_of_range(dice, &mut plan),
         13 => cut_off_or_append(dice, &mut plan.step),
+        14 => count_back_wrongly(dice, round, &mut plan.sheet),
         _ => return empty_or_take_away(dice, plan),
     }
     whole(plan)
@@ -154,7 +155,34 @@ const NO_NUMBERS: [&[&[u8]]; 4] = [
     &[b"x", b"\xB2", b"\t1"],
 ];
 
-const NO_POINTS: [&[u8]; 6] = [b"0", b"-0", b"-1", b"41", b"2048", b"99999"];
+const NO_POINTS: [&[u8]; 6] = [b"0", b"-0", b"-41", b"41", b"2048", b"99999"];
+
+/// Has a face count back to no point, to the one before the first, or to another corner of its own.
+fn count_back_wrongly(dice: &mut Dice, round: usize, text: &mut Vec<u8>) {
+    let mut lines = lines(text);
+    let is_face = |place: &usize| lines[*place].starts_with(b"f ");
+    let faces: Vec<usize> = (0..lines.len()).filter(is_face).collect();
+    let line = dice.one_of(&faces);
+    let above = lines_that_begin(&lines[..line].join(&b'\n'), b"v ") as i128;
+    let mut words = words(&lines[line]);
+    let place = 1 + dice.below(3);
+    words[place] = match round % 3 {
+        0 => b"-0".to_vec(),
+        1 => format!("{}", -above - 1).into_bytes(),
+        _ => the_other_way(&words[1 + place % 3], above).into_bytes(),
+    };
+    lines[line] = words.join(&b' ');
+    *text = lines.join(&b'\n');
+}
+
+/// The number that names the same of so many points from the other end.
+fn the_other_way(word: &[u8], above: i128) -> String {
+    let word = std::str::from_utf8(word).expect("a plan's text is read");
+    match word.parse::<i128>().expect("a plan's corner is a number") {
+        number if number < 0 => (above + 1 + number).to_string(),
+        number => (number - above - 1).to_string(),
+    }
+}
 
 /// Fills the sheet to one of its three limits, or to one more.
 fn fill(way: usize, plan: &mut Plan) {

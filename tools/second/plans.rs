@@ -86,16 +86,16 @@ fn make_point(dice: &mut Dice, reach: Vector) -> Point {
 fn make_text(dice: &mut Dice, points: &[Point], faces: usize, copies: bool) -> Vec<u8> {
     let mut text = Vec::new();
     let (mut above, mut left) = (0, faces);
-    let mut face_line = String::new();
+    let mut corners = Vec::new();
     while above < points.len() || left > 0 {
         if dice.one_in(12) {
             text.extend(make_skipped_line(dice));
         }
         if above == points.len() || (above >= 3 && left > 0 && dice.one_in(3)) {
-            if face_line.is_empty() || !copies || dice.one_in(3) {
-                face_line = make_face_line(dice, above);
+            if corners.is_empty() || !copies || dice.one_in(3) {
+                corners = make_corners(dice, above);
             }
-            text.extend(face_line.bytes());
+            text.extend(face_line(dice, &corners, above).bytes());
             left -= 1;
         } else {
             let [x, y, z] = points[above].start.map(|coordinate| told(dice, coordinate));
@@ -121,8 +121,8 @@ fn make_skipped_line(dice: &mut Dice) -> Vec<u8> {
     line
 }
 
-/// A face with three different corners of the points above.
-fn make_face_line(dice: &mut Dice, above: usize) -> String {
+/// Three different corners, of the points above.
+fn make_corners(dice: &mut Dice, above: usize) -> Vec<usize> {
     let mut corners = Vec::new();
     while corners.len() < 3 {
         let corner = dice.below(above);
@@ -130,8 +130,23 @@ fn make_face_line(dice: &mut Dice, above: usize) -> String {
             corners.push(corner);
         }
     }
-    let [a, b, c] = [0, 1, 2].map(|i| told(dice, corners[i] as i128 + 1));
-    format!("f {a} {b} {c}\n")
+    corners
+}
+
+/// The line of a face. Its numbers count from the front, or back, or some of them back.
+fn face_line(dice: &mut Dice, corners: &[usize], above: usize) -> String {
+    let way = dice.below(3);
+    let mut line = "f".to_string();
+    for &corner in corners {
+        let counts_back = way == 1 || way == 2 && dice.one_in(2);
+        let number = match counts_back {
+            true => corner as i128 - above as i128,
+            false => corner as i128 + 1,
+        };
+        line += " ";
+        line += &told(dice, number);
+    }
+    line + "\n"
 }
 
 /// A number's field, at times with a needless zero or minus.

@@ -49,14 +49,25 @@ impl Sheet {
         Ok(())
     }
 
+    /// From 0: 1 is the first point, and −1 the latest so far.
+    fn point_meant(&self, written: i128) -> Option<usize> {
+        let size = written.unsigned_abs() as usize;
+        if size == 0 || size > self.points.len() {
+            return None;
+        }
+        Some(match written < 0 {
+            true => self.points.len() - size,
+            false => size - 1,
+        })
+    }
+
     fn read_face(&mut self, line: usize, rest: &[u8]) -> Result<(), Fault> {
         let mut corners = Vec::new();
         for (i, field) in three_fields(rest).into_iter().enumerate() {
-            let counted = number(field).ok_or(Fault::new(1, "field", line, i + 1))?;
-            if counted < 1 || counted > self.points.len() as i128 {
-                return Err(Fault::new(4, "line", line, i + 1));
-            }
-            let corner = counted as usize - 1;
+            let written = number(field).ok_or(Fault::new(1, "field", line, i + 1))?;
+            let corner = self
+                .point_meant(written)
+                .ok_or(Fault::new(4, "line", line, i + 1))?;
             if corners.contains(&corner) {
                 return Err(Fault::new(5, "line", line, i + 1));
             }
@@ -151,8 +162,19 @@ mod worked_cases {
             "fault 4 line 4 3"
         );
         assert_eq!(fault(&format!("{three}f 1 0 2")), "fault 4 line 4 2");
-        assert_eq!(fault(&format!("{three}f 1 -1 2")), "fault 4 line 4 2");
         assert_eq!(fault(&format!("{three}f 1 2 01")), "fault 5 line 4 3");
+    }
+
+    #[test]
+    fn numbers_that_count_back() {
+        let three = "v 0 0 0\nv 1 1 1\nv 2 2 2\n";
+        let read = |faces: &str| read(format!("{three}{faces}").as_bytes()).unwrap().faces;
+        assert_eq!(read("f -3 -2 -1"), [[0, 1, 2]]);
+        assert_eq!(read("f 3 -3 -00002\nv 3 3 3\nf -4 2 -1"), [[2, 0, 1], [0, 1, 3]]);
+        assert_eq!(fault(&format!("{three}f 1 -3 2")), "fault 5 line 4 2");
+        assert_eq!(fault(&format!("{three}f -1 2 3")), "fault 5 line 4 3");
+        assert_eq!(fault(&format!("{three}f 1 -0 2")), "fault 4 line 4 2");
+        assert_eq!(fault(&format!("{three}f -4 1 2\nv 3 3 3")), "fault 4 line 4 1");
     }
 
     #[test]

@@ -2,11 +2,12 @@
 use Rattle.std.specs.Prelude.{◌≡◌, ℕ, List, [], ◌∷◌, All, Some, None, Option, ℤ, pos, neg_ℤ, codes}
 use Rattle.sheet.specs.Checks.{first_fit}
 use Rattle.sheet.specs.Lines.{numbered}
-use Rattle.sheet.specs.Sheet.{point_limit, face_limit, points_in, sheet_checks}
+use Rattle.sheet.specs.Sheet.{point_limit, face_limit, points_in, faces_in, sheet_checks}
 use Rattle.sheet.specs.declared.notices.Layer.{Layer}
 use Rattle.sheet.specs.declared.notices.Layer.TheVariants as layer
 use Rattle.sheet.specs.declared.notices.Notice.{Notice}
 use Rattle.sheet.specs.declared.rows.Coords.{Coords}
+use Rattle.sheet.specs.declared.rows.Face.{Face}
 use Rattle.sheet.specs.declared.rows.Point.{Point}
 use Rattle.step.specs.Record.{point_record}
 use Rattle.step.specs.Laying.{lay_checks}
@@ -70,6 +71,10 @@ fault_read text = first_fit (sheet_checks text point_limit face_limit)
 abbrev pub points_read : List ℕ → List Point
 points_read text = points_in (numbered text)
 
+-- the faces that a text says
+abbrev pub faces_read : List ℕ → List Face
+faces_read text = faces_in (numbered text)
+
 -- the fault of a depth
 abbrev pub fault_opened : ℕ → Option Notice
 fault_opened depth = first_fit (depth_checks depth)
@@ -81,12 +86,13 @@ notice n l i k = record { number = n; layer = l; first = i; second = k }
 abbrev pub fault : ℕ → Layer → ℕ → ℕ → Option Notice
 fault n l i k = Some (notice n l i k)
 
--- of three records, three texts and a depth
+-- of three records, four texts and a depth
 abbrev pub worked_faults : List (Option Notice)
 worked_faults =
     fault_laid (8 ∷ []) ∷ fault_laid (1 ∷ 0 ∷ 0 ∷ []) ∷ fault_laid (1 ∷ [])
     ∷ fault_read (codes "v 1 2") ∷ fault_read (codes "v 0 0 0\nv 0 0 0\nf 1 1 2")
-    ∷ fault_read (codes "v 4097 0 0") ∷ fault_opened 7 ∷ []
+    ∷ fault_read (codes "v 4097 0 0") ∷ fault_read (codes "v 0 0 0\nv 0 0 0\nv 0 0 0\nf 1 -3 2")
+    ∷ fault_opened 7 ∷ []
 
 pub record Worked : Type 0 where
   -- the cases of moving features
@@ -107,6 +113,10 @@ pub record Worked : Type 0 where
   pub greatest_passes : fault_read (codes "v 4096 0 0") ≡ None
   pub greatest_read : points_read (codes "v 4096 0 0") ≡ resting (coords_of 4096 0 0) ∷ []
   pub past_greatest : fault_read (codes "v 4097 0 0") ≡ fault 3 layer.Line 1 1
+  -- numbers that count back: face 0, 1, 2, and one point named both ways
+  pub counts_back : faces_read (codes "v 0 0 0\nv 0 0 0\nv 0 0 0\nf -3 -2 -1") ≡ record { a = 0; b = 1; c = 2 } ∷ []
+  pub counting_back_passes : fault_read (codes "v 0 0 0\nv 0 0 0\nv 0 0 0\nf -3 -2 -1") ≡ None
+  pub named_both_ways : fault_read (codes "v 0 0 0\nv 0 0 0\nv 0 0 0\nf 1 -3 2") ≡ fault 5 layer.Line 4 2
   -- depths
   pub deepest_passes : fault_opened 6 ≡ None
   pub too_deep : fault_opened 7 ≡ fault 15 layer.Opening 7 0

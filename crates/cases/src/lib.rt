@@ -7,11 +7,11 @@ ghost use Rattle.cases.specs.Worked.{worked_faults, notice, Worked};
 
 use sheet::{Layer, Notice};
 
-/// The faults of seven inputs, as they were worked out by hand: they are those of the rules.
+/// The faults of eight inputs, as they were worked out by hand: they are those of the rules.
 ///
 /// Each case comes out by the rules as it should (`cases`). Both clauses speak of the definitions
 /// that the other crates' contracts cite, and of no code.
-pub fn worked_cases() -> [Notice; 7]
+pub fn worked_cases() -> [Notice; 8]
     ensures faults { map Some result ≡ worked_faults }
     ensures cases { Worked }
 {
@@ -22,6 +22,7 @@ pub fn worked_cases() -> [Notice; 7]
         notice(1, Layer::Field, 1, 3),
         notice(5, Layer::Line, 3, 2),
         notice(3, Layer::Line, 1, 1),
+        notice(5, Layer::Line, 4, 2),
         notice(15, Layer::Opening, 7, 0),
     ]
 }

@@ -66,6 +66,35 @@ fn a_step_is_stored_and_then_told(rt: HostRuntime) -> Result<(), Fail> {
 }
 
 #[test]
+fn one_frame_may_count_back(rt: HostRuntime) -> Result<(), Fail> {
+    let back = b"v 0 0 0\nv 4 0 0\nv 0 4 0\nf -3 2 -1\nv 1 1 -1\nv 1 1 9\nv 2 1 9\nf -3 -2 -1\n";
+    comes(
+        rt.alloc(),
+        SHEET,
+        back.as_slice(),
+        b"SEsp",
+        b"\x00\x00\x00\x04\xfe\xff\x00\x00",
+        b"step 6 points, 1 moved, 8 bytes\n",
+        Recording::Recorded,
+    )
+}
+
+#[test]
+fn frames_differ_in_the_points_meant(rt: HostRuntime) -> Result<(), Fail> {
+    let above = b"v 0 0 0\nv 4 0 0\nv 0 4 0\nf -3 -2 -1\nv 1 1 1\n";
+    let below = b"v 0 0 0\nv 4 0 0\nv 0 4 0\nv 1 1 1\nf -3 -2 -1\n";
+    comes(
+        rt.alloc(),
+        above.as_slice(),
+        below.as_slice(),
+        b"SEp",
+        b"",
+        b"the frames differ in face 0\n",
+        Recording::Different,
+    )
+}
+
+#[test]
 fn a_faulty_first_frame_needs_no_second(rt: HostRuntime) -> Result<(), Fail> {
     ends(
         rt.alloc(),

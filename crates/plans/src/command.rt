@@ -9,7 +9,7 @@ usage: inspect [FOLDER]
        inspect --refused FILE [FOLDER]
 
 Inspects the fold plan in a folder, or in the current one:
-  sheet.obj   the sheet, as text: a line `v X Y Z` for each point, `f A B C` for each face; points count from 1 there
+  sheet.obj   the sheet, as text: a line `v X Y Z` for each point, `f A B C` for each face; points count from 1 there, or back from -1
   step.bin    the record of its step: how far each point moves (the program `record` makes it from two frames)
   pairs.bin   the pairs of faces to inspect: two numbers of two bytes each, the lower byte first; faces count from 0
 

@@ -10,7 +10,7 @@ usage: record START.obj END.obj STEP.bin
 
 Makes the record of the step between two frames of one sheet, START.obj and END.obj, and stores it in STEP.bin, for the
 program `inspect`. The frames have the same faces; each point ends where the second frame has it. A frame is a text:
-a line `v X Y Z` for each point, `f A B C` for each face; points count from 1 there.
+a line `v X Y Z` for each point, `f A B C` for each face; points count from 1 there, or back from -1.
 
 It prints
   step N points, N moved, N bytes      the record is stored

@@ -1,3 +1,4 @@
+pub mod CountingBack
 pub mod FirstFit
 pub mod Fronts
 pub mod Sound

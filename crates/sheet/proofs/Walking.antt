@@ -4,7 +4,7 @@ use Rattle.std.proofs.lemmas.List.{take_more_set, drop-set-lt, append_assoc}
 use Rattle.std.proofs.lemmas.Bool.{ltb-true}
 use Rattle.sheet.specs.Checks.{first_fit}
 use Rattle.sheet.specs.Passes.{total, with_point, with_face}
-use Rattle.sheet.specs.Sheet.{element_of, counting, has_room, point_row, face_row, points_in, faces_in, line_checks, lines_checks}
+use Rattle.sheet.specs.Sheet.{element_of, counting, has_room, point_row, face_row, points_below, faces_below, line_checks, lines_checks}
 use Rattle.sheet.specs.declared.counts.RowCounts.{RowCounts}
 use Rattle.sheet.specs.declared.lines.Element.{Element}
 use Rattle.sheet.specs.declared.lines.Element.TheVariants as element
@@ -13,13 +13,13 @@ use Rattle.sheet.specs.declared.rows.Point.{Point}
 use Rattle.sheet.specs.declared.rows.Face.{Face}
 use Rattle.sheet.proofs.FirstFit.{past, stop}
 
-pub checks_more : (room above next : RowCounts) (s : Element) (l : ℕ × List ℕ) (ls ms : List (ℕ × List ℕ)) → ms ≡ l ∷ ls → next ≡ counting above s → s ≡ element_of l.1 → None ≡ first_fit (line_checks room above l) → first_fit (lines_checks room next ls) ≡ first_fit (lines_checks room above ms)
+pub checks_more : (room above next : RowCounts) (s : Element) (l : ℕ × List ℕ) (ls ms : List (ℕ × List ℕ)) → ms ≡ l ∷ ls → next ≡ counting above s → s ≡ element_of above.points l.1 → None ≡ first_fit (line_checks room above l) → first_fit (lines_checks room next ls) ≡ first_fit (lines_checks room above ms)
 checks_more room above next s l ls ms p q r e = rw (q, r, p) (past (line_checks room above l) _ e)
 
 pub checks_stop : (room above : RowCounts) (l : ℕ × List ℕ) (ls ms : List (ℕ × List ℕ)) (d : Notice) → ms ≡ l ∷ ls → Some d ≡ first_fit (line_checks room above l) → Some d ≡ first_fit (lines_checks room above ms)
 checks_stop room above l ls ms d p e = rw p (stop (line_checks room above l) _ d e)
 
-pub total_more : (above next : RowCounts) (s : Element) (l : ℕ × List ℕ) (ls ms : List (ℕ × List ℕ)) → ms ≡ l ∷ ls → next ≡ counting above s → s ≡ element_of l.1 → total next ls ≡ total above ms
+pub total_more : (above next : RowCounts) (s : Element) (l : ℕ × List ℕ) (ls ms : List (ℕ × List ℕ)) → ms ≡ l ∷ ls → next ≡ counting above s → s ≡ element_of above.points l.1 → total next ls ≡ total above ms
 total_more above next s l ls ms p q r = rw (q, r, p)
 
 -- rows over those of a table from i on
@@ -41,13 +41,13 @@ by_face room above element.Nothing t rows p h = refl
 by_face room above (element.Point x) t rows p h = refl
 by_face room above (element.Face x) t rows p h = sym (pasted_more t above.faces x rows (omega (arith, ltb-true _ _ p)))
 
-pub points_more : (room above next : RowCounts) (s : Element) (t u : List Point) (l : ℕ × List ℕ) (ls ms : List (ℕ × List ℕ)) → ms ≡ l ∷ ls → next ≡ counting above s → s ≡ element_of l.1 → u ≡ with_point above s t → has_room room above s ≡ true → room.points ≤ length t → pasted u next.points (points_in ls) ≡ pasted t above.points (points_in ms)
+pub points_more : (room above next : RowCounts) (s : Element) (t u : List Point) (l : ℕ × List ℕ) (ls ms : List (ℕ × List ℕ)) → ms ≡ l ∷ ls → next ≡ counting above s → s ≡ element_of above.points l.1 → u ≡ with_point above s t → has_room room above s ≡ true → room.points ≤ length t → pasted u next.points (points_below next ls) ≡ pasted t above.points (points_below above ms)
 points_more room above next s t u l ls ms p c e w h k =
-    rw (w, c, p, ← e) (by_point room above s t (points_in ls) h k)
+    rw (w, c, p, ← e) (by_point room above s t (points_below (counting above s) ls) h k)
 
-pub faces_more : (room above next : RowCounts) (s : Element) (t u : List Face) (l : ℕ × List ℕ) (ls ms : List (ℕ × List ℕ)) → ms ≡ l ∷ ls → next ≡ counting above s → s ≡ element_of l.1 → u ≡ with_face above s t → has_room room above s ≡ true → room.faces ≤ length t → pasted u next.faces (faces_in ls) ≡ pasted t above.faces (faces_in ms)
+pub faces_more : (room above next : RowCounts) (s : Element) (t u : List Face) (l : ℕ × List ℕ) (ls ms : List (ℕ × List ℕ)) → ms ≡ l ∷ ls → next ≡ counting above s → s ≡ element_of above.points l.1 → u ≡ with_face above s t → has_room room above s ≡ true → room.faces ≤ length t → pasted u next.faces (faces_below next ls) ≡ pasted t above.faces (faces_below above ms)
 faces_more room above next s t u l ls ms p c e w h k =
-    rw (w, c, p, ← e) (by_face room above s t (faces_in ls) h k)
+    rw (w, c, p, ← e) (by_face room above s t (faces_below (counting above s) ls) h k)
 
 -- the counts are those of the rows
 by_kind : (above : RowCounts) (e : Element) (ps : List Point) (fs : List Face) → ((counting above e).points + length ps ≡ above.points + length (point_row e ++ ps)) × ((counting above e).faces + length fs ≡ above.faces + length (face_row e ++ fs))
@@ -55,10 +55,11 @@ by_kind above element.Nothing ps fs = (refl, refl)
 by_kind above (element.Point p) ps fs = (omega arith, refl)
 by_kind above (element.Face f) ps fs = (refl, omega arith)
 
-pub counts_are : (above : RowCounts) (ls : List (ℕ × List ℕ)) → ((total above ls).points ≡ above.points + length (points_in ls)) × ((total above ls).faces ≡ above.faces + length (faces_in ls))
+pub counts_are : (above : RowCounts) (ls : List (ℕ × List ℕ)) → ((total above ls).points ≡ above.points + length (points_below above ls)) × ((total above ls).faces ≡ above.faces + length (faces_below above ls))
 counts_are above [] = (omega arith, omega arith)
 counts_are above (l ∷ ls) =
-    let e = element_of l.1 in
-    let more = counts_are (counting above e) ls in
-    let k = by_kind above e (points_in ls) (faces_in ls) in
+    let e = element_of above.points l.1 in
+    let next = counting above e in
+    let more = counts_are next ls in
+    let k = by_kind above e (points_below next ls) (faces_below next ls) in
     (more.0 ∙ k.0, more.1 ∙ k.1)

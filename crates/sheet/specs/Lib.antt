@@ -1,6 +1,7 @@
 pub mod Bytes
 pub mod Checks
 pub mod Counted
+pub mod CountingBack
 pub mod Drafts
 pub mod Faults
 pub mod IsSheet

@@ -13,7 +13,7 @@ abbrev pub widest : RowCounts
 widest = record { points = 65535; faces = 65535 }
 
 abbrev pub total : RowCounts → List (ℕ × List ℕ) → RowCounts
-total above ls = fold (λ a l. counting a (element_of l.1)) above ls
+total above ls = fold (λ a l. counting a (element_of a.points l.1)) above ls
 
 abbrev pub with_point : RowCounts → Element → List Point → List Point
 with_point above element.Nothing ps = ps

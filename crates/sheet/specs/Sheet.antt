@@ -1,6 +1,6 @@
 -- The format of a sheet: the checks at each spot of its text, and what a text says that passes
 -- them all.
-use Rattle.std.specs.Prelude.{ℕ, ◌+◌, ◌-◌, min, Bool, true, not, ◌&&◌, List, [], ◌∷◌, ◌++◌, length, drop, pos, ◌==◌, int_le, nat_lt, unsigned_abs}
+use Rattle.std.specs.Prelude.{ℕ, ◌+◌, ◌-◌, ◌+ℤ◌, min, Bool, true, not, if◌then◌else◌, ◌&&◌, List, [], ◌∷◌, ◌++◌, length, drop, ℤ, pos, ◌==◌, int_le, int_lt, nat_lt, unsigned_abs}
 use Rattle.std.specs.List.{list_any, flat_map}
 use Rattle.sheet.specs.Checks.{Check, check}
 use Rattle.sheet.specs.Counted.{in_range}
@@ -43,18 +43,25 @@ numeral_checks s f = magnitude_checks s (digits_of f)
 abbrev pub coordinate_checks : Spot → List ℕ → List Check
 coordinate_checks s f = numeral_checks s f ++ (check (not (in_range (value_of f))) 3 Line s.line s.field ∷ [])
 
--- a field of a face counts the points above its line from 1; in a row they are numbered from 0
-abbrev pub names_point : ℕ → List ℕ → Bool
-names_point points f = int_le (pos 1) (value_of f) && int_le (value_of f) (pos points)
+-- a field of a face names one of the points above its line: n the nth from the front, −n the nth
+-- latest, which is so many from the front
+abbrev pub from_front : ℕ → ℤ → ℤ
+from_front points n = if int_lt n (pos 0) then pos (points + 1) +ℤ n else n
 
-abbrev pub point_named : List ℕ → ℕ
-point_named f = unsigned_abs (value_of f) - 1
+abbrev pub names_point : ℕ → List ℕ → Bool
+names_point points f =
+    let n = from_front points (value_of f) in
+    int_le (pos 1) n && int_le n (pos points)
+
+-- in a row points are numbered from 0
+abbrev pub point_named : ℕ → List ℕ → ℕ
+point_named points f = unsigned_abs (from_front points (value_of f)) - 1
 
 abbrev pub corner_checks : ℕ → Spot → List ℕ → List ℕ → List Check
 corner_checks points s earlier f =
     numeral_checks s f
     ++ (check (not (names_point points f)) 4 Line s.line s.field
-    ∷ (check (list_any (λ e. e == point_named f) earlier) 5 Line s.line s.field
+    ∷ (check (list_any (λ e. e == point_named points f) earlier) 5 Line s.line s.field
     ∷ []))
 
 -- A LINE
@@ -69,9 +76,11 @@ point_checks n fs =
 
 abbrev pub face_checks : ℕ → ℕ → Fields → List Check
 face_checks n points fs =
+    let first = point_named points fs.first in
+    let second = point_named points fs.second in
     corner_checks points (spot n 1) [] fs.first
-    ++ (corner_checks points (spot n 2) (point_named fs.first ∷ []) fs.second
-    ++ corner_checks points (spot n 3) (point_named fs.first ∷ point_named fs.second ∷ []) fs.third)
+    ++ (corner_checks points (spot n 2) (first ∷ []) fs.second
+    ++ corner_checks points (spot n 3) (first ∷ second ∷ []) fs.third)
 
 abbrev pub content_checks : ℕ → ℕ → Content → List Check
 content_checks n points skipped = []
@@ -79,7 +88,7 @@ content_checks n points (point fs) = point_checks n fs
 content_checks n points (face fs) = face_checks n points fs
 content_checks n points no_start = check true 2 Line n 0 ∷ []
 
--- what a line says that passes them
+-- what a line says that passes them, where so many points stand above it
 
 abbrev pub at_rest : Coords → Point
 at_rest p = record { start = p; end = p }
@@ -88,22 +97,26 @@ abbrev pub point_from : Fields → Point
 point_from fs =
     at_rest (record { x = value_of fs.first; y = value_of fs.second; z = value_of fs.third })
 
-abbrev pub face_from : Fields → Face
-face_from fs =
-    record { a = point_named fs.first; b = point_named fs.second; c = point_named fs.third }
+abbrev pub face_from : ℕ → Fields → Face
+face_from points fs =
+    record {
+      a = point_named points fs.first;
+      b = point_named points fs.second;
+      c = point_named points fs.third;
+    }
 
-abbrev pub element_from : Content → Element
-element_from skipped = element.Nothing
-element_from (point fs) = element.Point (point_from fs)
-element_from (face fs) = element.Face (face_from fs)
-element_from no_start = element.Nothing
+abbrev pub element_from : ℕ → Content → Element
+element_from points skipped = element.Nothing
+element_from points (point fs) = element.Point (point_from fs)
+element_from points (face fs) = element.Face (face_from points fs)
+element_from points no_start = element.Nothing
 
-abbrev pub element_of : List ℕ → Element
-element_of l = element_from (content_of l)
+abbrev pub element_of : ℕ → List ℕ → Element
+element_of points l = element_from points (content_of l)
 
 -- A SHEET
 
--- what numbered lines say, in their order: points and faces
+-- the points and the faces of what lines say, in their order
 
 abbrev pub point_row : Element → List Point
 point_row element.Nothing = []
@@ -115,12 +128,6 @@ face_row element.Nothing = []
 face_row (element.Point p) = []
 face_row (element.Face f) = f ∷ []
 
-abbrev pub points_in : List (ℕ × List ℕ) → List Point
-points_in ls = flat_map (λ l. point_row (element_of l.1)) ls
-
-abbrev pub faces_in : List (ℕ × List ℕ) → List Face
-faces_in ls = flat_map (λ l. face_row (element_of l.1)) ls
-
 abbrev pub no_rows : RowCounts
 no_rows = record { points = 0; faces = 0 }
 
@@ -129,6 +136,24 @@ abbrev pub counting : RowCounts → Element → RowCounts
 counting above element.Nothing = above
 counting above (element.Point p) = record { points = above.points + 1; faces = above.faces }
 counting above (element.Face f) = record { points = above.points; faces = above.faces + 1 }
+
+-- what numbered lines say, one below the other
+abbrev pub elements_below : RowCounts → List (ℕ × List ℕ) → List Element
+elements_below above [] = []
+elements_below above (l ∷ ls) =
+    let e = element_of above.points l.1 in e ∷ elements_below (counting above e) ls
+
+abbrev pub points_below : RowCounts → List (ℕ × List ℕ) → List Point
+points_below above ls = flat_map point_row (elements_below above ls)
+
+abbrev pub faces_below : RowCounts → List (ℕ × List ℕ) → List Face
+faces_below above ls = flat_map face_row (elements_below above ls)
+
+abbrev pub points_in : List (ℕ × List ℕ) → List Point
+points_in ls = points_below no_rows ls
+
+abbrev pub faces_in : List (ℕ × List ℕ) → List Face
+faces_in ls = faces_below no_rows ls
 
 -- there is room for what a line says, after what stands above it
 abbrev pub has_room : RowCounts → RowCounts → Element → Bool
@@ -140,14 +165,14 @@ has_room room above (element.Face f) = nat_lt above.faces room.faces
 abbrev pub line_checks : RowCounts → RowCounts → ℕ × List ℕ → List Check
 line_checks room above l =
     content_checks l.0 above.points (content_of l.1)
-    ++ (check (not (has_room room above (element_of l.1))) 7 Sheet l.0 0
+    ++ (check (not (has_room room above (element_of above.points l.1))) 7 Sheet l.0 0
     ∷ [])
 
 -- those of one line after another
 abbrev pub lines_checks : RowCounts → RowCounts → List (ℕ × List ℕ) → List Check
 lines_checks room above [] = []
 lines_checks room above (l ∷ ls) =
-    line_checks room above l ++ lines_checks room (counting above (element_of l.1)) ls
+    line_checks room above l ++ lines_checks room (counting above (element_of above.points l.1)) ls
 
 -- the room in tables of so many rows
 abbrev pub room_in : ℕ → ℕ → RowCounts

@@ -4,7 +4,7 @@ ghost use Rattle.sheet.specs.Checks.{first_fit, fault_notice};
 ghost use Rattle.sheet.specs.Faults.{notice_of_line};
 ghost use Rattle.sheet.specs.Lines.{content_of, fields_of};
 ghost use Rattle.sheet.specs.Numerals.{value_of};
-ghost use Rattle.sheet.specs.Sheet.{coordinate_checks, corner_checks, point_checks, face_checks, content_checks, spot, point_named, point_from, face_from, element_of};
+ghost use Rattle.sheet.specs.Sheet.{coordinate_checks, corner_checks, point_checks, face_checks, content_checks, spot, from_front, point_named, point_from, face_from, element_of};
 
 use crate::faults::{LineFault, Spot};
 use crate::fields::{number, split_fields};
@@ -24,7 +24,7 @@ pub(crate) fn read_line(line: Line<'_>, points: u16) -> Result<Element, LineFaul
     ensures fault { let content = content_of line.entry.bytes.now in
         fault_notice notice_of_line result
         ≡ first_fit (content_checks line.entry.number points content) }
-    ensures element { IfOk result (λ e. e ≡ element_of line.entry.bytes.now) }
+    ensures element { IfOk result (λ e. e ≡ element_of points line.entry.bytes.now) }
 {
     let number = line.number;
     match line.bytes {
@@ -72,7 +72,7 @@ fn coordinate(field: &[u8], spot: Spot) -> Result<i16, LineFault>
 fn read_face(text: &[u8], line: u32, points: u16) -> Result<Face, LineFault>
     ensures fault { fault_notice notice_of_line result
         ≡ first_fit (face_checks line points (fields_of text.now)) }
-    ensures face { IfOk result (λ f. f ≡ face_from (fields_of text.now)) }
+    ensures face { IfOk result (λ f. f ≡ face_from points (fields_of text.now)) }
 {
     let fields = split_fields(text);
     let a = corner(fields.first, Spot { line, field: 1 }, points, &[])?;
@@ -81,20 +81,31 @@ fn read_face(text: &[u8], line: u32, points: u16) -> Result<Face, LineFault>
     Ok(Face { a, b, c })
 }
 
-/// The number, from 0, of the point that a field names by its number from 1, other than the
-/// `earlier` ones.
+/// The number, from 0, of the point that a field names, of the `points` above its line, other than
+/// the `earlier` ones. Points count from 1, and back from −1, the latest.
 fn corner(field: &[u8], spot: Spot, points: u16, earlier: &[u16]) -> Result<u16, LineFault>
     ensures fault { fault_notice notice_of_line result
         ≡ first_fit (corner_checks points spot earlier.now field.now) }
-    ensures named { IfOk result (λ n. n ≡ point_named field.now) }
+    ensures named { IfOk result (λ n. n ≡ point_named points field.now) }
 {
     let value = number(field, spot)?;
-    if value < 1 || value > i32::from(points) {
+    let nth = from_front(value, points);
+    if nth < 1 || nth > i32::from(points) {
         return Err(LineFault::NoSuchPoint(spot));
     }
-    let point = (value - 1) as u16;
+    let point = (nth - 1) as u16;
     if earlier.contains(&point) {
         return Err(LineFault::NamedBefore(spot));
     }
     Ok(point)
+}
+
+/// Which of `points` points a number names, counted from 1 at the front: −n is the nth latest.
+fn from_front(n: i32, points: u16) -> i32
+    ensures { result ≡ from_front points n }
+{
+    if n < 0 {
+        return i32::from(points) + 1 + n;
+    }
+    n
 }

@@ -2,6 +2,7 @@
 // writes the rows.
 ghost use Rattle.std.specs.Prelude.{◌≡◌, ◌≤◌, length, is_ok, take, IfOk, IsTrue, if◌then◌else◌, None};
 ghost use Rattle.sheet.specs.Checks.{first_fit, fault_notice};
+ghost use Rattle.sheet.specs.CountingBack.{CountsBack};
 ghost use Rattle.sheet.specs.Faults.{notice_of_sheet};
 ghost use Rattle.sheet.specs.IsSheet.{IsSheet};
 ghost use Rattle.sheet.specs.Lines.{numbered};
@@ -22,7 +23,9 @@ pub const TEXT_LIMIT: usize = 65536;
 /// Reads a sheet into the first rows of the caller's tables; the other rows are as they were. On a
 /// fault all are.
 ///
-/// What is accepted is a sheet (`meaning`).
+/// What is accepted is a sheet (`meaning`). In a face −n counts back to the nth latest point above
+/// its line (`counting_back`).
+#[tactic(auto, using(crate::proofs::CountingBack::counts_back))]
 pub fn read_sheet(
     text: &[u8],
     points: &mut [Point],
@@ -33,6 +36,7 @@ pub fn read_sheet(
     ensures draft { IfOk result (λ d. d ≡ draft_of text.now) }
     ensures meaning { IfOk result
         (λ d. IsSheet (take d.points points.new) (take d.faces faces.new)) }
+    ensures counting_back { CountsBack }
     ensures points { let rows = points_in (numbered text.now) in
         points.new ≡ (if is_ok result then onto_front rows points.old else points.old) }
     ensures faces { let rows = faces_in (numbered text.now) in
@@ -90,7 +94,7 @@ fn fill(text: &[u8], room: RowCounts, points: &mut [Point], faces: &mut [Face])
 fn admit(line: Line<'_>, above: RowCounts, room: RowCounts) -> Result<Element, SheetFault>
     ensures fault { fault_notice notice_of_sheet result
         ≡ first_fit (line_checks room above (line_read line.entry)) }
-    ensures element { IfOk result (λ e. e ≡ element_of line.entry.bytes.now) }
+    ensures element { IfOk result (λ e. e ≡ element_of above.points line.entry.bytes.now) }
     ensures room { IfOk result (λ e. IsTrue (has_room room above e)) }
 {
     let element = read_line(line, above.points)?;

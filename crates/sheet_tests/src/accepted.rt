@@ -44,6 +44,18 @@ fn faces_count_from_one(rt: HostRuntime) {
 }
 
 #[test]
+fn faces_count_back(rt: HostRuntime) {
+    let tables = read(
+        &rt,
+        "v 0 0 0\nv 1 0 0\nv 0 1 0\nf -3 -2 -1\nv 1 1 0\nf -4 3 -00001\n",
+        4,
+        2,
+    );
+    assert_eq!(rt; tables.faces[0], Face { a: 0, b: 1, c: 2 });
+    assert_eq!(rt; tables.faces[1], Face { a: 0, b: 2, c: 3 });
+}
+
+#[test]
 fn line_ends(rt: HostRuntime) {
     let texts = [
         "v 1 2 3",

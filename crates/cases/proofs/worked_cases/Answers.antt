@@ -35,6 +35,9 @@ returns-clause-cases c =
       greatest_passes = refl;
       greatest_read = refl;
       past_greatest = refl;
+      counts_back = refl;
+      counting_back_passes = refl;
+      named_both_ways = refl;
       deepest_passes = refl;
       too_deep = refl;
     }
