@@ -68,7 +68,7 @@ fn a_step_is_stored_and_then_told(rt: HostRuntime) -> Result<(), Fail> {
 #[test]
 fn one_frame_may_count_back(rt: HostRuntime) -> Result<(), Fail> {
     let back = b"v 0 0 0\nv 4 0 0\nv 0 4 0\nf -3 2 -1\nv 1 1 -1\nv 1 1 9\nv 2 1 9\nf -3 -2 -1\n";
-    comes(
+    ends(
         rt.alloc(),
         SHEET,
         back.as_slice(),
@@ -83,7 +83,7 @@ fn one_frame_may_count_back(rt: HostRuntime) -> Result<(), Fail> {
 fn frames_differ_in_the_points_meant(rt: HostRuntime) -> Result<(), Fail> {
     let above = b"v 0 0 0\nv 4 0 0\nv 0 4 0\nf -3 -2 -1\nv 1 1 1\n";
     let below = b"v 0 0 0\nv 4 0 0\nv 0 4 0\nv 1 1 1\nf -3 -2 -1\n";
-    comes(
+    ends(
         rt.alloc(),
         above.as_slice(),
         below.as_slice(),
