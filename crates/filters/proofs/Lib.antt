@@ -5,3 +5,4 @@ pub mod Pairwise
 pub mod Turns
 pub mod Inside
 pub mod Volumes
+pub mod InHalves

@@ -2,3 +2,4 @@ pub mod Reaching
 pub mod Spans
 pub mod Boxes
 pub mod Slabs
+pub mod FirstParts

@@ -5,6 +5,7 @@
 mod boxes;
 mod depths;
 mod filter;
+mod first_parts;
 mod planes;
 mod rows;
 mod slabs;
@@ -16,6 +17,7 @@ mod windows;
 pub use boxes::BoxFilter;
 pub use depths::struck_at;
 pub use filter::Filter;
+pub use first_parts::{Earliest, earliest_at};
 pub use planes::{PlaneFilter, controls};
 pub use rows::{DELIVERED, Delivered, Row, delivered_filter};
 pub use slabs::SlabFilter;

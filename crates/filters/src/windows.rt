@@ -75,7 +75,7 @@ fn last_passed<F: Filter>(filter: &F, test: &Test, depth: u8) -> Option<u8>
 }
 
 /// The number in the whole of a subinterval of the last half, where each half has 2^depth.
-fn of_last_half(part: Option<u8>, depth: u8) -> Option<u8>
+pub(crate) fn of_last_half(part: Option<u8>, depth: u8) -> Option<u8>
     requires depth { depth ≤ 5 }
     requires part { IfSome part (λ k. k < 2 ^ depth) }
     ensures { result ≡ option_map (λ k. 2 ^ depth + k) part }

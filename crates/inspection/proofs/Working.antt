@@ -45,6 +45,10 @@ module _ (set : Shape → Bool) (ps : List Point) (fs : List Face) where
         subst₂ (λ (y : Answer) (z : State). Runs (history_from h z.core.depth (request.Window Vf i ∷ qs) (y ∷ rs)) t) (sym e) v (worked-runs h qs rs u t (asked u r v) w)
     worked-runs h (request.Window Ee i ∷ qs) (a ∷ rs) s t r (u, ((x, (e, b, v)), w)) =
         subst₂ (λ (y : Answer) (z : State). Runs (history_from h z.core.depth (request.Window Ee i ∷ qs) (y ∷ rs)) t) (sym e) v (worked-runs h qs rs u t (asked u r v) w)
+    worked-runs h (request.Earliest Vf i ∷ qs) (a ∷ rs) s t r (u, ((x, (e, b, v)), w)) =
+        subst₂ (λ (y : Answer) (z : State). Runs (history_from h z.core.depth (request.Earliest Vf i ∷ qs) (y ∷ rs)) t) (sym e) v (worked-runs h qs rs u t (asked u r v) w)
+    worked-runs h (request.Earliest Ee i ∷ qs) (a ∷ rs) s t r (u, ((x, (e, b, v)), w)) =
+        subst₂ (λ (y : Answer) (z : State). Runs (history_from h z.core.depth (request.Earliest Ee i ∷ qs) (y ∷ rs)) t) (sym e) v (worked-runs h qs rs u t (asked u r v) w)
 
   -- ---- one request more, worked at the end
   pub worked-more : (qs : List Request) (rs : List Answer) (q : Request) (a : Answer) (s t u : State)

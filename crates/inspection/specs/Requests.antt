@@ -4,6 +4,7 @@ use Rattle.sheet.specs.declared.rows.Point.{Point}
 use Rattle.sheet.specs.declared.rows.Face.{Face}
 use Rattle.motion.specs.declared.shapes.Shape.{Shape}
 use Rattle.motion.specs.declared.shapes.Kind.TheVariants.{Vf, Ee}
+use Rattle.filters.specs.declared.first_parts.Earliest.{Earliest}
 use Rattle.inspection.specs.declared.faults.OpeningFault.{OpeningFault}
 use Rattle.inspection.specs.declared.faults.OfferFault.{OfferFault}
 use Rattle.inspection.specs.declared.faults.WindowFault.{WindowFault}
@@ -14,7 +15,7 @@ use Rattle.inspection.specs.declared.requests.Answer.TheVariants as answer
 use Rattle.inspection.specs.Tests.{vf_naming, ee_naming}
 use Rattle.inspection.specs.States.{State}
 use Rattle.inspection.specs.Offers.{OfferCall}
-use Rattle.inspection.specs.Windows.{WindowAnswer}
+use Rattle.inspection.specs.Windows.{WindowAnswer, EarliestAnswer}
 use Rattle.inspection.specs.Runs.{Accepted, DepthCall, history_after}
 
 module _ (set : Shape → Bool) (ps : List Point) (fs : List Face) where
@@ -31,6 +32,12 @@ module _ (set : Shape → Bool) (ps : List Point) (fs : List Face) where
   RequestCall (request.Window Ee i) a s t =
       (r : Result (Option (ℕ × ℕ)) WindowFault) × ((a ≡ answer.Window r)
       × WindowAnswer ee_naming ps fs s.core s.ee i set r × (t ≡ s))
+  RequestCall (request.Earliest Vf i) a s t =
+      (r : Result Earliest WindowFault) × ((a ≡ answer.Earliest r)
+      × EarliestAnswer vf_naming ps fs s.core s.vf i set r × (t ≡ s))
+  RequestCall (request.Earliest Ee i) a s t =
+      (r : Result Earliest WindowFault) × ((a ≡ answer.Earliest r)
+      × EarliestAnswer ee_naming ps fs s.core s.ee i set r × (t ≡ s))
 
   -- as many answers as requests, each by one call, from s to t
   abbrev pub Calls : List Request → List Answer → State → State → Type 0

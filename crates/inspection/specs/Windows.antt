@@ -1,4 +1,6 @@
--- The window of an entry: its checks, in their order, and its answer where none fits.
+-- The window of an entry and the earliest part that may have a touch: the checks, in their order,
+-- and the answers where none fits.
+use Rattle.std.specs.Option.{option_map}
 use Rattle.std.specs.Prelude.{◌≡◌, ℕ, Bool, false, not, List, [], ◌∷◌, length, Some, None, Option, Result, IfOk, IfSome, nat_le, slice_get}
 use Rattle.sheet.specs.Checks.{Check, first_fit, fault_notice, check}
 use Rattle.sheet.specs.declared.notices.Layer.TheVariants.{Window}
@@ -6,6 +8,9 @@ use Rattle.sheet.specs.declared.rows.Point.{Point}
 use Rattle.sheet.specs.declared.rows.Face.{Face}
 use Rattle.motion.specs.declared.shapes.Shape.{Shape}
 use Rattle.motion.specs.Depths.{window_at, WindowMeans}
+use Rattle.motion.specs.Earliest.{EarliestMeans}
+use Rattle.filters.specs.FirstParts.{earliest_at}
+use Rattle.filters.specs.declared.first_parts.Earliest.{Earliest}
 use Rattle.inspection.specs.declared.faults.WindowFault.{WindowFault}
 use Rattle.inspection.specs.Faults.{notice_of_window}
 use Rattle.inspection.specs.Sheets.{Sheet, sheet_in}
@@ -44,3 +49,13 @@ module _
     pub value : IfOk r (λ w. w ≡ window_of set c.depth (n.shape sheet) (slice_get h.entries i))
     pub meaning : IfOk r (λ w.
         IfSome (slice_get h.entries i) (λ e. WindowMeans set c.depth (n.shape sheet e) w))
+
+  -- with how many parts are put to the filter, and that it is the first of the window
+  pub record EarliestAnswer (set : Shape → Bool) (r : Result Earliest WindowFault) : Type 0 where
+    pub fault : fault_notice notice_of_window r ≡ first_fit window_checks
+    pub value : IfOk r (λ a.
+        IfSome (slice_get h.entries i) (λ e. a ≡ earliest_at set c.depth (n.shape sheet e)))
+    pub window : IfOk r (λ a. let w = window_of set c.depth (n.shape sheet) (slice_get h.entries i) in
+        a.part ≡ option_map (λ (first, last). first) w)
+    pub meaning : IfOk r (λ a.
+        IfSome (slice_get h.entries i) (λ e. EarliestMeans set c.depth (n.shape sheet e) a.part))

@@ -1,8 +1,11 @@
 // An inspection of one step of a sheet: opened, offered faces, and asked.
-ghost use Rattle.std.specs.Prelude.{◌≡◌, ◌*◌, ◌<◌, ◌≤◌, ◌++◌, ◌||◌, length, is_none, is_ok, nat_lt, IfOk, IfErr, IfSome, if◌then◌else◌};
+ghost use Rattle.std.specs.Prelude.{◌≡◌, ◌*◌, ◌<◌, ◌≤◌, ◌++◌, ◌||◌, length, is_none, is_ok, nat_lt, IfOk, IfErr, IfSome, if◌then◌else◌, Some, slice_get};
+ghost use Rattle.std.specs.Option.{option_map};
 ghost use Rattle.sheet.specs.Checks.{first_fit, fault_notice};
 ghost use Rattle.motion.specs.Depths.{window_at, WindowMeans};
-ghost use Rattle.inspection.specs.Faults.{notice_of_opening};
+ghost use Rattle.motion.specs.Earliest.{EarliestMeans};
+ghost use Rattle.filters.specs.FirstParts.{earliest_at};
+ghost use Rattle.inspection.specs.Faults.{notice_of_opening, notice_of_window};
 ghost use Rattle.inspection.specs.Tallies.{total, tally_in};
 ghost use Rattle.inspection.specs.Sheets.{sheet_in, sheet_of_rows};
 ghost use Rattle.inspection.specs.Lists.{contents_of, entries, grown_to, without_entries};
@@ -21,7 +24,7 @@ use crate::pairs::{ee_tests, vf_tests};
 use crate::sheets::Rows;
 use crate::tests::TestName;
 use arrayvec::ArrayVec;
-use filters::{Filter, window_at};
+use filters::{Earliest, Filter, earliest_at, window_at};
 use motion::Kind;
 use sheet::{Draft, Face, Point};
 
@@ -67,7 +70,7 @@ struct PairOutcome {
 impl<F: Filter> Inspection<F> {
     ghost use Rattle.inspection.specs.States.{core_of, state_of, core_at_start, with_counts};
     ghost use Rattle.inspection.specs.Offers.{lacks_rows, Outcome, OfferCall};
-    ghost use Rattle.inspection.specs.Windows.{WindowAnswer};
+    ghost use Rattle.inspection.specs.Windows.{WindowAnswer, EarliestAnswer, window_checks};
     ghost use Rattle.inspection.specs.Runs.{depth_checks, Opened, DepthCall};
     ghost use Rattle.inspection.specs.Claims.{Findings};
 
@@ -247,6 +250,47 @@ impl<F: Filter> Inspection<F> {
         ensures { WindowAnswer E.naming points.now faces.now (core_of self.now)
             (contents_of list.now) entry (F.Filter.struck self.now.filter) result }
     {
+        let (e, rows) = self.entry_over(points, faces, list, entry)?;
+        Ok(self.window_of(e, rows))
+    }
+
+    /// The first of the 2^depth parts of the step, from 0, that the filter passes of an entry's
+    /// test, at the depth now set, or none, and how many parts were put to the filter: they are put
+    /// to it one after another from the front, and none after the one that it passes. `entry`
+    /// counts from 0. The faults are those of `window`.
+    ///
+    /// It is the first of the window. In each part before it the entry's features stay apart; where
+    /// there is none, they do so for the whole step.
+    pub fn earliest<E: TestName>(
+        &self,
+        points: &[Point],
+        faces: &[Face],
+        list: &List<'_, E>,
+        entry: u32,
+    ) -> Result<Earliest, WindowFault>
+        ensures { EarliestAnswer E.naming points.now faces.now (core_of self.now)
+            (contents_of list.now) entry (F.Filter.struck self.now.filter) result }
+    {
+        let (e, rows) = self.entry_over(points, faces, list, entry)?;
+        Ok(self.earliest_of(e, rows))
+    }
+
+    /// An entry of a list, and the rows of the sheet, of which its numbers are.
+    fn entry_over<'a, E: TestName>(
+        &self,
+        points: &'a [Point],
+        faces: &'a [Face],
+        list: &List<'_, E>,
+        entry: u32,
+    ) -> Result<(E, Rows<'a>), WindowFault>
+        ensures fault { fault_notice notice_of_window result
+            ≡ first_fit (window_checks E.naming points.now faces.now (core_of self.now)
+            (contents_of list.now) entry) }
+        ensures entry { IfOk result (λ (e, rows).
+            slice_get (entries list.now) entry ≡ Some e) }
+        ensures rows { IfOk result (λ (e, rows).
+            sheet_of_rows rows ≡ sheet_in self.now.draft points.now faces.now) }
+    {
         let Some(rows) = self.rows(points, faces) else {
             return Err(WindowFault::TableTooShort);
         };
@@ -256,7 +300,7 @@ impl<F: Filter> Inspection<F> {
         if !e.is_inside(rows) {
             return Err(WindowFault::NotOfTheSheet(entry));
         }
-        Ok(self.window_of(e, rows))
+        Ok((e, rows))
     }
 
     /// The rows of the sheet, as they lie in tables that may have more; none where one has fewer.
@@ -280,6 +324,23 @@ impl<F: Filter> Inspection<F> {
             unreachable!()
         };
         window
+    }
+
+    /// The earliest part of an entry in hand, over the rows of a sheet.
+    pub fn earliest_of<E: TestName>(&self, e: E, rows: Rows<'_>) -> Earliest
+        ensures value { let shape = E.naming.shape (sheet_of_rows rows.entry) e in
+            result ≡ earliest_at (F.Filter.struck self.now.filter) self.now.depth shape }
+        ensures window { let shape = E.naming.shape (sheet_of_rows rows.entry) e in
+            let w = window_at (F.Filter.struck self.now.filter) self.now.depth shape in
+            result.part ≡ option_map (λ (first, last). first) w }
+        ensures meaning { let shape = E.naming.shape (sheet_of_rows rows.entry) e in
+            EarliestMeans (F.Filter.struck self.now.filter) self.now.depth shape result.part }
+    {
+        let test = e.test(rows);
+        let Some(earliest) = earliest_at(&self.filter, &test, self.depth) else {
+            unreachable!()
+        };
+        earliest
     }
 }
 

@@ -1,6 +1,7 @@
 // What can be asked of an inspection, and its answers.
 use crate::faults::{OfferFault, OpeningFault, WindowFault};
 use crate::offerings::Offering;
+use filters::Earliest;
 use motion::Kind;
 
 /// One call of an inspection.
@@ -12,6 +13,8 @@ pub enum Request {
     Offer(Offering),
     /// The window of an entry of one list.
     Window(Kind, u32),
+    /// The earliest part of the step that may have a touch, of an entry of one list.
+    Earliest(Kind, u32),
 }
 
 /// What the call answered.
@@ -20,4 +23,5 @@ pub enum Answer {
     DepthSet(Result<(), OpeningFault>),
     Offered(Result<(), OfferFault>),
     Window(Result<Option<(u8, u8)>, WindowFault>),
+    Earliest(Result<Earliest, WindowFault>),
 }

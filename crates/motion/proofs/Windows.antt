@@ -6,6 +6,7 @@ use Rattle.std.proofs.lemmas.Option.{none-some, some_pair_parts, MatchOption-at_
 use Rattle.std.proofs.lemmas.Bool.{and_parts, and_from, both_ways}
 use Rattle.motion.specs.declared.shapes.Shape.{Shape}
 use Rattle.motion.specs.Laws.{Valid, Apart, Lawful, subinterval, half}
+use Rattle.motion.specs.Earliest.{EarliestMeans}
 use Rattle.motion.specs.Depths.{every, struck_at, IsWindow, first_lacking, last_lacking, first_passed, last_passed, window_at, WindowMeans, FindsWindow}
 use Rattle.motion.proofs.Subintervals.{twice, in-first, in-last, whole, valid-subinterval}
 use Rattle.motion.proofs.DepthLaws.{whole-struck, struck}
@@ -124,10 +125,13 @@ module _ (set : Shape → Bool) where
       let lacks = λ (i : ℕ) (w : Last (part d t) (2 ^ d) i). lacks-none (part d t) (2 ^ d) i w.within w.here in
       sym (none-is _ (Last (part d t) (2 ^ d)) _ (last-says (part d t) (2 ^ d)) lacks (whole-struck set l d t v k (sym h)))
 
-  -- the whole passed at depth 0
-  pub first_whole : (d : ℕ) (t : Shape) → d ≡ 0 → set t ≡ false → first_passed set d t ≡ Some 0
+  -- at depth 0 the whole decides
+  pub first_at_whole : (d : ℕ) (t : Shape) → d ≡ 0 → first_passed set d t ≡ cond (set t) None (Some 0)
   unfolding first_passed
-  first_whole d t e h = ap (λ (n : ℕ). first_passed set n t) e ∙ ap (λ b. cond b None (Some 0)) (ap set (whole t) ∙ h)
+  first_at_whole d t e = ap (λ (n : ℕ). first_passed set n t) e ∙ ap (λ b. cond b None (Some 0)) (ap set (whole t))
+
+  pub first_whole : (d : ℕ) (t : Shape) → d ≡ 0 → set t ≡ false → first_passed set d t ≡ Some 0
+  first_whole d t e h = first_at_whole d t e ∙ ap (λ b. cond b None (Some 0)) h
 
   pub last_whole : (d : ℕ) (t : Shape) → d ≡ 0 → set t ≡ false → last_passed set d t ≡ Some 0
   unfolding last_passed
@@ -154,6 +158,17 @@ module _ (set : Shape → Bool) where
       (ap (last_lacking (part (suc d) t)) (twice d) ∙ last-more (part (suc d) t) (2 ^ d) (2 ^ d)
       ∙ (λ i. option_or (option_map (λ k. 2 ^ d + k) (last_lacking (λ j. set (in-last t d j i)) (2 ^ d))) (last_lacking (λ j. set (in-first t d j i)) (2 ^ d))))
 
+  -- the first that is passed is that of the window
+  pub first_of_window : (d : ℕ) (t : Shape) → first_passed set d t ≡ option_map (λ w. w.0) (window_at set d t)
+  unfolding first_passed last_passed window_at
+  first_of_window d t = both (first_lacking (part d t) (2 ^ d)) (last_lacking (part d t) (2 ^ d)) (first-says (part d t) (2 ^ d)) (last-says (part d t) (2 ^ d))
+    where
+      both : (o p : Option ℕ) → MatchOption o (every (part d t) (2 ^ d) ≡ true) (First (part d t) (2 ^ d)) → MatchOption p (every (part d t) (2 ^ d) ≡ true) (Last (part d t) (2 ^ d))
+          → o ≡ option_map (λ w. w.0) (option_zip o p)
+      both None p h k = refl
+      both (Some i) None h k = absurd (lacks-none (part d t) (2 ^ d) i h.within h.here k)
+      both (Some i) (Some j) h k = refl
+
   -- each is a number of a subinterval
   pub first_below : (d : ℕ) (t : Shape) (o : Option ℕ) → o ≡ first_passed set d t → IfSome o (λ k. k < 2 ^ d)
   unfolding first_passed
@@ -173,3 +188,10 @@ module _ (set : Shape → Bool) (l : Lawful set) (d : ℕ) (t : Shape) (v : Vali
   pub window-means : (w : Option (ℕ × ℕ)) → w ≡ window_at set d t → WindowMeans set d t w
   window-means None e = struck set l d t v room ((finds-window set d t).none.0 (sym e))
   window-means (Some (i, j)) e = let w = (finds-window set d t).some i j (sym e) in record { is = w; apart = outside i j w }
+
+  pub earliest_means : (p : Option ℕ) → p ≡ first_passed set d t → EarliestMeans set d t p
+  unfolding struck_at first_passed
+  earliest_means None e = struck set l d t v room (subst (λ o. MatchOption o (every (part set d t) (2 ^ d) ≡ true) (First (part set d t) (2 ^ d))) (sym e) (first-says (part set d t) (2 ^ d)))
+  earliest_means (Some i) e = λ n h.
+      let f = MatchOption-at_some (every (part set d t) (2 ^ d) ≡ true) (First (part set d t) (2 ^ d)) i (sym e) (first-says (part set d t) (2 ^ d)) in
+      l.apart (subinterval d n t) (valid-subinterval t v d n room (omega (arith, f.within))) (f.before n h)

@@ -6,4 +6,5 @@ pub mod Slab
 pub mod Plane
 pub mod Rows
 pub mod Depths
+pub mod Earliest
 pub mod Cases

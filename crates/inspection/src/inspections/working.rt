@@ -42,6 +42,12 @@ impl<F: Filter> Inspection<F> {
             Request::Window(Kind::Ee, entry) => {
                 Answer::Window(self.window(points, faces, ee, entry))
             }
+            Request::Earliest(Kind::Vf, entry) => {
+                Answer::Earliest(self.earliest(points, faces, vf, entry))
+            }
+            Request::Earliest(Kind::Ee, entry) => {
+                Answer::Earliest(self.earliest(points, faces, ee, entry))
+            }
         }
     }
 }
