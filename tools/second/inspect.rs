@@ -1,4 +1,4 @@
-// Written from docs/RULES.md alone: the program `inspect`.
+// Written from docs/RULES.md alone: the program `inspect`, and with --questions `questions`.
 
 mod faults;
 mod filters;
@@ -47,6 +47,7 @@ struct Findings {
     /// The refused pairs, as they stand in the file of pairs.
     refused: Vec<u8>,
     report: String,
+    answers: String,
 }
 
 /// Offers the pairs in turn. Answers the fault lines of the refused, and these pairs again.
@@ -73,10 +74,12 @@ fn inspect(folder: &Path) -> Result<Findings, Stop> {
     let pairs = read(folder, "pairs.bin", u64::MAX)?;
     let (refusals, refused) = offer_pairs(&mut inspection, &pairs);
     let report = inspection.report();
+    let answers = inspection.answers();
     Ok(Findings {
         refusals,
         refused,
         report,
+        answers,
     })
 }
 
@@ -87,15 +90,20 @@ fn main() {
         target = Some(PathBuf::from(arguments.remove(1)));
         arguments.remove(0);
     }
+    let asks = arguments.first().is_some_and(|word| word == "--questions");
+    if asks {
+        arguments.remove(0);
+    }
     if arguments.len() > 1 {
-        eprintln!("usage: inspect-second [--refused FILE] [FOLDER]");
+        eprintln!("usage: inspect-second [--refused FILE] [--questions] [FOLDER]");
         exit(1);
     }
     let folder = arguments.first().map_or(PathBuf::from("."), PathBuf::from);
     match inspect(&folder) {
         Ok(findings) => {
             // a refused pair is passed over: the status is 0
-            print!("{}{}", findings.refusals, findings.report);
+            let told = if asks { findings.answers } else { findings.report };
+            print!("{}{told}", findings.refusals);
             if let Some(path) = target {
                 std::fs::write(path, findings.refused).expect("the refused pairs can be stored");
             }

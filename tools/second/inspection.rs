@@ -162,6 +162,34 @@ impl Inspection {
         Some((*passed.first()?, *passed.last()?))
     }
 
+    /// The first subinterval that the filter passes, asked from the front, and how many it is asked.
+    fn earliest(&self, name: Name) -> (Option<i128>, i128) {
+        let test = self.test(name);
+        let all = 1i128 << self.depth;
+        for j in 0..all {
+            let part = test.subinterval(self.depth, j).expect("a sheet's test has parts");
+            if !row_strikes(&part) {
+                return (Some(j), j + 1);
+            }
+        }
+        (None, all)
+    }
+
+    /// What is asked about each entry, a line for each.
+    pub fn answers(&self) -> String {
+        let mut lines = String::new();
+        for (kind, side) in [("VF", &self.vf), ("EE", &self.ee)] {
+            for &name in &side.list {
+                let (part, put) = self.earliest(name);
+                let part = part.map_or("-".to_string(), |part| part.to_string());
+                let window = self.told_window(name);
+                let name = numbers(name);
+                lines += &format!("{kind} {name} window {window} earliest {part} put {put}\n");
+            }
+        }
+        lines
+    }
+
     pub fn report(&self) -> String {
         let mut report = String::new();
         for (kind, side) in [("VF", &self.vf), ("EE", &self.ee)] {
@@ -246,6 +274,11 @@ mod worked_cases {
             let report = inspection.report();
             assert_eq!(report.lines().next(), Some(&*format!("VF 3 0 {window}")));
         }
+        for (depth, earliest) in [(0, "0 put 1"), (1, "0 put 1"), (2, "1 put 2"), (6, "31 put 32")] {
+            let mut inspection = two_faces(depth);
+            inspection.offer(0, 1).unwrap();
+            assert!(inspection.answers().ends_with(&format!(" earliest {earliest}\n")));
+        }
         let too_deep = Inspection::open(vec![], vec![], 7).err().unwrap();
         assert_eq!(too_deep.to_string(), "fault 15 opening 7 0");
     }
@@ -276,6 +309,7 @@ mod worked_cases {
         assert!(inspection.report().contains("VF 0 0 0 0\n"));
         inspection.depth = 1;
         assert!(inspection.report().contains("VF 0 0 - -\n"));
+        assert!(inspection.answers().contains("VF 0 0 window - - earliest - put 2\n"));
     }
 
     #[test]

@@ -6,4 +6,6 @@ mod bounds;
 #[cfg(test)]
 mod cases;
 #[cfg(test)]
+mod counting;
+#[cfg(test)]
 mod shapes;

@@ -1,0 +1,118 @@
+//! Asks about each entry of an inspection, and prints the answers.
+#![tactic(auto)]
+
+mod asking;
+
+use asking::ask_about_list;
+use commands::{About, Given, given};
+use files::tell;
+use filters::DELIVERED;
+use inspection::{EeName, Inspection, List, VfName};
+use printout::pair_offerings;
+use sheet::{FACE_LIMIT, Face, Notice, POINT_LIMIT, Point, read_sheet};
+use std::process::ExitCode;
+use std::{fs, io};
+use step::lay;
+
+/// The most entries of a list.
+const ENTRIES: usize = 512;
+
+/// The step is asked about in four parts.
+const DEPTH: u8 = 2;
+
+const HELP: &str = "\
+usage: questions [FOLDER]
+
+Inspects the fold plan in a folder, or in the current one, as `inspect` does, and prints for each test on its lists
+  VF POINT FACE window FIRST LAST earliest PART put N
+  EE U V K L window FIRST LAST earliest PART put N
+The test may touch from part FIRST of the step to part LAST, of four, counted from 0. PART is the first of them, found by
+putting part by part to the filter from the front, and N is how many were put. A dash stands for none.
+
+What has a fault gets the line that `inspect` prints for it.
+
+  -h, --help   prints this
+  --version    prints the number of the program
+  --           ends the options
+
+The exit status is 0, and 1 after a fault of the sheet or of the step, where the arguments are wrong, and where something
+stops the run, which is told on standard error.
+";
+
+const ABOUT: About = About {
+    version: "questions 0.1.0\n",
+    usage: "questions [FOLDER]",
+    help: HELP,
+    least: 0,
+    most: 1,
+    has_refused: false,
+};
+
+fn main(rt: HostRuntime) -> ExitCode {
+    ExitCode::from(questions_command(&rt))
+}
+
+/// Does what the command line asks for: the exit status.
+fn questions_command(rt: &HostRuntime) -> u8 {
+    match given(rt, &ABOUT) {
+        Ok(
+            Given {
+                operands,
+                refused: _,
+            },
+        ) => {
+            let folder = operands.first().map_or(".", |folder| folder.as_str());
+            match ask_in_folder(rt, folder) {
+                Ok(status) => status,
+                Err(reason) => {
+                    tell(rt, folder, reason);
+                    1
+                }
+            }
+        }
+        Err(status) => status,
+    }
+}
+
+/// Asks about the plan in a folder: the exit status.
+fn ask_in_folder(rt: &HostRuntime, folder: &str) -> io::Result<u8> {
+    let text = read(rt, folder, "sheet.obj")?;
+    let mut points = vec![in rt.alloc(); Point::default(); POINT_LIMIT as usize]?;
+    let mut faces = vec![in rt.alloc(); Face::default(); FACE_LIMIT as usize]?;
+    let draft = match read_sheet(&text, &mut points, &mut faces) {
+        Ok(draft) => draft,
+        Err(fault) => return refuse(rt, fault.notice()),
+    };
+    let step = read(rt, folder, "step.bin")?;
+    if let Err(fault) = lay(&draft, &step, &mut points) {
+        return refuse(rt, fault.notice());
+    }
+    let mut vf_table = [VfName::default(); ENTRIES];
+    let mut ee_table = [EeName::default(); ENTRIES];
+    let mut vf = List::new(&mut vf_table);
+    let mut ee = List::new(&mut ee_table);
+    let mut inspection = match Inspection::open(draft, DELIVERED, DEPTH, &mut vf, &mut ee) {
+        Ok(inspection) => inspection,
+        Err(refused) => return refuse(rt, refused.fault.notice()),
+    };
+    let pairs = read(rt, folder, "pairs.bin")?;
+    for what in pair_offerings(&pairs) {
+        if let Err(fault) = inspection.offer(&points, &faces, &mut vf, &mut ee, what) {
+            println!(rt; "{}", fault.notice())?;
+        }
+    }
+    ask_about_list(rt, &inspection, &points, &faces, &vf)?;
+    ask_about_list(rt, &inspection, &points, &faces, &ee)?;
+    Ok(0)
+}
+
+fn read(rt: &HostRuntime, folder: &str, name: &str) -> io::Result<Vec<u8>> {
+    let path = format!(in rt.alloc(); "{folder}/{name}")?;
+    fs::read(rt, path.as_str())
+}
+
+/// Tells a fault that ends the run: the exit status.
+fn refuse(rt: &HostRuntime, notice: Notice) -> io::Result<u8> {
+    println!(rt; "{notice}")?;
+    Ok(1)
+}
