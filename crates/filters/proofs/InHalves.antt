@@ -1,13 +1,13 @@
 -- The earliest subinterval that is passed comes from those of the halves.
-use Rattle.std.proofs.Common.{◌≡◌, ℕ, suc, ◌+◌, ◌-◌, ◌^◌, ◌<◌, ◌≤◌, Bool, true, false, cond, Option, Some, None, is_some, IfSome, sym, refl, ap, ◌∙◌, arith}
+use Rattle.std.proofs.Common.{◌≡◌, ℕ, suc, ◌+◌, ◌-◌, ◌^◌, ◌<◌, ◌≤◌, Bool, true, false, cond, Option, Some, None, is_some, IfSome, nat_le, sym, refl, ap, ◌∙◌, arith}
 use Rattle.std.specs.Option.{option_or, option_map}
 use Rattle.motion.specs.declared.shapes.Shape.{Shape}
-use Rattle.motion.specs.Laws.{half}
-use Rattle.motion.specs.Depths.{first_passed}
-use Rattle.motion.specs.Earliest.{put_until}
-use Rattle.std.proofs.lemmas.Bool.{both_ways}
+use Rattle.motion.specs.Laws.{half, Lawful, Valid}
+use Rattle.motion.specs.Depths.{first_passed, window_at}
+use Rattle.motion.specs.Earliest.{put_until, EarliestMeans, first_of}
+use Rattle.std.proofs.lemmas.Bool.{both_ways, leb-true}
 use Rattle.motion.proofs.Subintervals.{twice}
-use Rattle.motion.proofs.Windows.{first_at_whole, first_step, first_below}
+use Rattle.motion.proofs.Windows.{first_at_whole, first_step, first_below, first_of_window, earliest_means}
 use Rattle.filters.specs.FirstParts.{earliest_at, behind_first_half}
 use Rattle.filters.specs.declared.first_parts.Earliest.{Earliest}
 
@@ -71,6 +71,11 @@ module _ (set : Shape → Bool) (d : ℕ) (t : Shape) where
   unfolding earliest_at
   below e h = rw h (first_below set d t _ refl)
 
-  pub part_found : (e : Earliest) → e ≡ earliest_at set d t → e.part ≡ first_passed set d t
+  -- what was found is the first of the window
+  pub of_window : (e : Earliest) → e ≡ earliest_at set d t → e.part ≡ first_of (window_at set d t)
   unfolding earliest_at
-  part_found e h = ap (λ (x : Earliest). x.part) h
+  of_window e h = ap (λ (x : Earliest). x.part) h ∙ first_of_window set d t
+
+  pub apart_before : Lawful set → Valid t → true ≡ nat_le (t.scale + d) 6 → (e : Earliest) → e ≡ earliest_at set d t → EarliestMeans set d t e.part
+  unfolding earliest_at
+  apart_before l v room e h = earliest_means set l d t v (leb-true (t.scale + d) 6 (sym room)) e.part (ap (λ (x : Earliest). x.part) h)

@@ -1,8 +1,7 @@
 // The earliest part of the step that a filter passes.
 ghost use Rattle.std.specs.Prelude.{◌≡◌, ◌+◌, ◌^◌, ◌<◌, ◌≤◌, nat_le, if◌then◌else◌, Some, None, IfSome};
-ghost use Rattle.std.specs.Option.{option_map};
 ghost use Rattle.motion.specs.Depths.{window_at};
-ghost use Rattle.motion.specs.Earliest.{EarliestMeans};
+ghost use Rattle.motion.specs.Earliest.{EarliestMeans, first_of};
 ghost use Rattle.filters.specs.FirstParts.{earliest_at, behind_first_half};
 
 use crate::depths::has_room;
@@ -42,12 +41,13 @@ impl Earliest {
 ///
 /// It is the first of the window (`window`). In each subinterval before it the features stay apart;
 /// where there is none, they do so for the whole step (`meaning`).
+#[tactic(auto, using(crate::proofs::InHalves::of_window, crate::proofs::InHalves::apart_before))]
 pub fn earliest_at<F: Filter>(filter: &F, test: &Test, depth: u8) -> Option<Earliest>
     ensures answer { let set = F.Filter.struck filter.now in
         let t = test.now.shape in
         result ≡ (if nat_le (t.scale + depth) 6 then Some (earliest_at set depth t) else None) }
     ensures window { let w = window_at (F.Filter.struck filter.now) depth test.now.shape in
-        IfSome result (λ e. e.part ≡ option_map (λ (first, last). first) w) }
+        IfSome result (λ e. e.part ≡ first_of w) }
     ensures meaning { IfSome result (λ e.
         EarliestMeans (F.Filter.struck filter.now) depth test.now.shape e.part) }
 {

@@ -1,6 +1,5 @@
 -- The window of an entry and the earliest part that may have a touch: the checks, in their order,
 -- and the answers where none fits.
-use Rattle.std.specs.Option.{option_map}
 use Rattle.std.specs.Prelude.{◌≡◌, ℕ, Bool, false, not, List, [], ◌∷◌, length, Some, None, Option, Result, IfOk, IfSome, nat_le, slice_get}
 use Rattle.sheet.specs.Checks.{Check, first_fit, fault_notice, check}
 use Rattle.sheet.specs.declared.notices.Layer.TheVariants.{Window}
@@ -8,7 +7,7 @@ use Rattle.sheet.specs.declared.rows.Point.{Point}
 use Rattle.sheet.specs.declared.rows.Face.{Face}
 use Rattle.motion.specs.declared.shapes.Shape.{Shape}
 use Rattle.motion.specs.Depths.{window_at, WindowMeans}
-use Rattle.motion.specs.Earliest.{EarliestMeans}
+use Rattle.motion.specs.Earliest.{EarliestMeans, first_of}
 use Rattle.filters.specs.FirstParts.{earliest_at}
 use Rattle.filters.specs.declared.first_parts.Earliest.{Earliest}
 use Rattle.inspection.specs.declared.faults.WindowFault.{WindowFault}
@@ -56,6 +55,6 @@ module _
     pub value : IfOk r (λ a.
         IfSome (slice_get h.entries i) (λ e. a ≡ earliest_at set c.depth (n.shape sheet e)))
     pub window : IfOk r (λ a. let w = window_of set c.depth (n.shape sheet) (slice_get h.entries i) in
-        a.part ≡ option_map (λ (first, last). first) w)
+        a.part ≡ first_of w)
     pub meaning : IfOk r (λ a.
         IfSome (slice_get h.entries i) (λ e. EarliestMeans set c.depth (n.shape sheet e) a.part))

@@ -1,9 +1,8 @@
 // An inspection of one step of a sheet: opened, offered faces, and asked.
 ghost use Rattle.std.specs.Prelude.{◌≡◌, ◌*◌, ◌<◌, ◌≤◌, ◌++◌, ◌||◌, length, is_none, is_ok, nat_lt, IfOk, IfErr, IfSome, if◌then◌else◌, Some, slice_get};
-ghost use Rattle.std.specs.Option.{option_map};
 ghost use Rattle.sheet.specs.Checks.{first_fit, fault_notice};
 ghost use Rattle.motion.specs.Depths.{window_at, WindowMeans};
-ghost use Rattle.motion.specs.Earliest.{EarliestMeans};
+ghost use Rattle.motion.specs.Earliest.{EarliestMeans, first_of};
 ghost use Rattle.filters.specs.FirstParts.{earliest_at};
 ghost use Rattle.inspection.specs.Faults.{notice_of_opening, notice_of_window};
 ghost use Rattle.inspection.specs.Tallies.{total, tally_in};
@@ -332,7 +331,7 @@ impl<F: Filter> Inspection<F> {
             result ≡ earliest_at (F.Filter.struck self.now.filter) self.now.depth shape }
         ensures window { let shape = E.naming.shape (sheet_of_rows rows.entry) e in
             let w = window_at (F.Filter.struck self.now.filter) self.now.depth shape in
-            result.part ≡ option_map (λ (first, last). first) w }
+            result.part ≡ first_of w }
         ensures meaning { let shape = E.naming.shape (sheet_of_rows rows.entry) e in
             EarliestMeans (F.Filter.struck self.now.filter) self.now.depth shape result.part }
     {

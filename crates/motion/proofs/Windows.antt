@@ -6,7 +6,7 @@ use Rattle.std.proofs.lemmas.Option.{none-some, some_pair_parts, MatchOption-at_
 use Rattle.std.proofs.lemmas.Bool.{and_parts, and_from, both_ways}
 use Rattle.motion.specs.declared.shapes.Shape.{Shape}
 use Rattle.motion.specs.Laws.{Valid, Apart, Lawful, subinterval, half}
-use Rattle.motion.specs.Earliest.{EarliestMeans}
+use Rattle.motion.specs.Earliest.{EarliestMeans, first_of}
 use Rattle.motion.specs.Depths.{every, struck_at, IsWindow, first_lacking, last_lacking, first_passed, last_passed, window_at, WindowMeans, FindsWindow}
 use Rattle.motion.proofs.Subintervals.{twice, in-first, in-last, whole, valid-subinterval}
 use Rattle.motion.proofs.DepthLaws.{whole-struck, struck}
@@ -159,12 +159,12 @@ module _ (set : Shape → Bool) where
       ∙ (λ i. option_or (option_map (λ k. 2 ^ d + k) (last_lacking (λ j. set (in-last t d j i)) (2 ^ d))) (last_lacking (λ j. set (in-first t d j i)) (2 ^ d))))
 
   -- the first that is passed is that of the window
-  pub first_of_window : (d : ℕ) (t : Shape) → first_passed set d t ≡ option_map (λ w. w.0) (window_at set d t)
+  pub first_of_window : (d : ℕ) (t : Shape) → first_passed set d t ≡ first_of (window_at set d t)
   unfolding first_passed last_passed window_at
   first_of_window d t = both (first_lacking (part d t) (2 ^ d)) (last_lacking (part d t) (2 ^ d)) (first-says (part d t) (2 ^ d)) (last-says (part d t) (2 ^ d))
     where
       both : (o p : Option ℕ) → MatchOption o (every (part d t) (2 ^ d) ≡ true) (First (part d t) (2 ^ d)) → MatchOption p (every (part d t) (2 ^ d) ≡ true) (Last (part d t) (2 ^ d))
-          → o ≡ option_map (λ w. w.0) (option_zip o p)
+          → o ≡ first_of (option_zip o p)
       both None p h k = refl
       both (Some i) None h k = absurd (lacks-none (part d t) (2 ^ d) i h.within h.here k)
       both (Some i) (Some j) h k = refl

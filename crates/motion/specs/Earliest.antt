@@ -13,3 +13,8 @@ put_until d (Some i) = i + 1
 -- with none the test is struck
 abbrev pub EarliestMeans : (Shape → Bool) → ℕ → Shape → Option ℕ → Type 0
 EarliestMeans set d t p = MatchOption p (Struck set d t) (λ i. (n : ℕ) → n < i → Apart (subinterval d n t))
+
+-- the first part of a window, if there is one
+abbrev pub first_of : Option (ℕ × ℕ) → Option ℕ
+first_of None = None
+first_of (Some w) = Some w.0

@@ -45,8 +45,7 @@ pub(crate) fn ask_about_list<F: Filter, E: Named>(
     faces: &[Face],
     list: &List<'_, E>,
 ) -> io::Result<()> {
-    for (i, entry) in list.entries().iter().enumerate() {
-        let number = i as u32;
+    for (number, entry) in (0..u32::MAX).zip(list.entries().iter()) {
         let window = inspection.window(points, faces, list, number);
         let earliest = inspection.earliest(points, faces, list, number);
         match (window, earliest) {
