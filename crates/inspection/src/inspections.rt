@@ -238,7 +238,6 @@ impl<F: Filter> Inspection<F> {
     ///
     /// In each part before the first and after the last the entry's features stay apart; where
     /// there is no window, they do so for the whole step.
-    #[tactic(auto, unfolding(crate::specs::Windows::window_checks))]
     pub fn window<E: TestName>(
         &self,
         points: &[Point],
@@ -275,6 +274,7 @@ impl<F: Filter> Inspection<F> {
     }
 
     /// An entry of a list, and the rows of the sheet, of which its numbers are.
+    #[tactic(auto, unfolding(crate::specs::Windows::window_checks))]
     fn entry_over<'a, E: TestName>(
         &self,
         points: &'a [Point],

@@ -1,5 +1,5 @@
 // Small plans, and inspections of them.
-use filters::Filter;
+use filters::{Earliest, Filter};
 use inspection::{
     Counts, EeName, Inspection, List, OfferFault, Offering, OpeningFault, Tally, VfName,
     WindowFault,
@@ -170,6 +170,45 @@ impl<F: Filter + Drop> Inspected<'_, F> {
     ) {
         let found = self.window_over(&self.points, &self.faces, kind, entry);
         assert_eq!(rt; found, window);
+    }
+
+    /// The earliest part of an entry over such tables.
+    fn earliest_over(
+        &self,
+        points: &[Point],
+        faces: &[Face],
+        kind: Kind,
+        entry: u32,
+    ) -> Result<Earliest, WindowFault> {
+        match kind {
+            Kind::Vf => self.inspection.earliest(points, faces, &self.vf, entry),
+            Kind::Ee => self.inspection.earliest(points, faces, &self.ee, entry),
+        }
+    }
+
+    pub(crate) fn expect_earliest(
+        &self,
+        rt: &impl Abort,
+        kind: Kind,
+        entry: u32,
+        earliest: Result<Earliest, WindowFault>,
+    ) {
+        let found = self.earliest_over(&self.points, &self.faces, kind, entry);
+        assert_eq!(rt; found, earliest);
+    }
+
+    /// The earliest part of an entry over other tables is refused.
+    pub(crate) fn expect_earliest_fault(
+        &self,
+        rt: &impl Abort,
+        points: &[Point],
+        faces: &[Face],
+        kind: Kind,
+        entry: u32,
+        fault: WindowFault,
+    ) {
+        let found = self.earliest_over(points, faces, kind, entry);
+        assert_eq!(rt; found, Err(fault));
     }
 
     /// The window of an entry over other tables is refused.

@@ -1,7 +1,9 @@
 // Requests that are worked through.
 use crate::plans::{crossing, tables, tally};
-use filters::DELIVERED;
-use inspection::{Answer, List, OfferFault, Offering, OpeningFault, Request, Tally, inspect};
+use filters::{DELIVERED, Earliest};
+use inspection::{
+    Answer, List, OfferFault, Offering, OpeningFault, Request, Tally, WindowFault, inspect,
+};
 use motion::Kind;
 use std::test::Fail;
 
@@ -50,6 +52,28 @@ fn in_any_mix(rt: HostRuntime) -> Result<(), Fail> {
     assert_eq!(rt; answers[3], Answer::DepthSet(Err(OpeningFault::TooDeep(7))));
     assert_eq!(rt; answers[4], Answer::DepthSet(Ok(())));
     assert_eq!(rt; answers[5], Answer::Window(Ok(Some((31, 32)))));
+    assert_eq!(rt; vf, tally(1, 5, 0, 0));
+    Ok(())
+}
+
+const QUESTIONS: [Request; 5] = [
+    Request::Offer(Offering::Faces(0, 1)),
+    Request::Earliest(Kind::Vf, 0),
+    Request::Earliest(Kind::Ee, 0),
+    Request::SetDepth(6),
+    Request::Earliest(Kind::Vf, 0),
+];
+
+#[test]
+fn earliest_parts(rt: HostRuntime) -> Result<(), Fail> {
+    let mut answers = [UNANSWERED; 5];
+    let (answered, vf) = work_through(&QUESTIONS, &mut answers)?;
+    assert_eq!(rt; answered, 5);
+    let (part, put) = (Some(1), 2);
+    assert_eq!(rt; answers[1], Answer::Earliest(Ok(Earliest { part, put })));
+    assert_eq!(rt; answers[2], Answer::Earliest(Err(WindowFault::NoSuchEntry(0))));
+    let (part, put) = (Some(31), 32);
+    assert_eq!(rt; answers[4], Answer::Earliest(Ok(Earliest { part, put })));
     assert_eq!(rt; vf, tally(1, 5, 0, 0));
     Ok(())
 }
