@@ -71,7 +71,10 @@ fn earliest_parts(rt: HostRuntime) -> Result<(), Fail> {
     assert_eq!(rt; answered, 5);
     let (part, put) = (Some(1), 2);
     assert_eq!(rt; answers[1], Answer::Earliest(Ok(Earliest { part, put })));
-    assert_eq!(rt; answers[2], Answer::Earliest(Err(WindowFault::NoSuchEntry(0))));
+    assert_eq!(rt;
+        answers[2],
+        Answer::Earliest(Err(WindowFault::NoSuchEntry(0)))
+    );
     let (part, put) = (Some(31), 32);
     assert_eq!(rt; answers[4], Answer::Earliest(Ok(Earliest { part, put })));
     assert_eq!(rt; vf, tally(1, 5, 0, 0));
