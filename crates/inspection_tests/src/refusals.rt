@@ -1,8 +1,8 @@
 // What is refused changes nothing.
 use crate::nothing::Nothing;
-use crate::plans::{Inspected, Plan, crossing, open, tables, tally};
+use crate::plans::{Plan, crossing, open, tables, tally};
 use inspection::{EeName, Inspection, List, OfferFault, Offering, OpeningFault, VfName};
-use sheet::{Draft, Face, Point};
+use sheet::{Face, Point};
 use std::process::Abort;
 use std::test::Fail;
 
@@ -67,33 +67,27 @@ fn a_million_and_one(rt: HostRuntime) -> Result<(), Fail> {
     Ok(())
 }
 
-/// Opens at a depth that is refused: the fault, and the draft that comes back.
-fn refused_opening(draft: Draft, depth: u8) -> Result<(OpeningFault, Draft), Fail> {
-    let (mut vf, mut ee) = tables();
-    match Inspection::open(
-        draft,
-        Nothing,
-        depth,
-        &mut List::new(&mut vf),
-        &mut List::new(&mut ee),
-    ) {
-        Ok(_) => Err(Fail::new("the opening is not refused")),
-        Err(refused) => Ok((refused.fault, refused.draft)),
-    }
-}
-
 #[test]
 fn depths(rt: HostRuntime) -> Result<(), Fail> {
-    let mut plan = crossing()?;
-    let (fault, draft) = refused_opening(plan.draft, 7)?;
-    assert_eq!(rt; fault, OpeningFault::TooDeep(7));
-    plan.draft = draft;
-    let (mut vf, mut ee) = tables();
-    let mut inspected = open(plan, Nothing, 6, &mut vf, &mut ee)?;
-    assert_eq!(rt; inspected.set_depth(7), Err(OpeningFault::TooDeep(7)));
-    assert_eq!(rt; inspected.set_depth(6), Ok(()));
-    let _ = inspected.offer(0, 1);
-    let Inspected { inspection, .. } = inspected;
+    let plan = crossing()?;
+    let (mut vf_table, mut ee_table) = tables();
+    let mut vf = List::new(&mut vf_table);
+    let mut ee = List::new(&mut ee_table);
+    let draft = match Inspection::open(plan.draft, Nothing, 7, &mut vf, &mut ee) {
+        Ok(_) => return Err(Fail::new("depth 7 is open")),
+        Err(refused) => {
+            assert_eq!(rt; refused.fault, OpeningFault::TooDeep(7));
+            refused.draft
+        }
+    };
+    let mut inspection = match Inspection::open(draft, Nothing, 6, &mut vf, &mut ee) {
+        Ok(inspection) => inspection,
+        Err(_) => return Err(Fail::new("the opening is refused")),
+    };
+    assert_eq!(rt; inspection.set_depth(7), Err(OpeningFault::TooDeep(7)));
+    assert_eq!(rt; inspection.set_depth(6), Ok(()));
+    let what = Offering::Faces(0, 1);
+    let _ = inspection.offer(&plan.points, &plan.faces, &mut vf, &mut ee, what);
     let closed = inspection.close();
     assert_eq!(rt; closed.counts().vf, tally(6, 0, 0, 0));
     let (draft, _filter) = closed.into_draft();
