@@ -13,7 +13,8 @@ use std::fmt;
 pub type FaultLine = ArrayString<39>;
 
 /// What refused: the reader of a field, of a line, of a sheet or of a step, the writer of a step, a
-/// call of an inspection (its opening, an offer, a window), or the report.
+/// call of an inspection (its opening, an offer, a window), the report, or the search for near
+/// faces.
 #[derive(Clone, Copy, Debug, PartialEq, Eq)]
 pub enum Layer {
     Field,
@@ -25,6 +26,7 @@ pub enum Layer {
     Offer,
     Window,
     Report,
+    Search,
 }
 
 /// A fault in numbers: which it is, who refused, and its two places.
@@ -52,6 +54,7 @@ impl Layer {
             Layer::Offer => "offer",
             Layer::Window => "window",
             Layer::Report => "report",
+            Layer::Search => "search",
         }
     }
 }

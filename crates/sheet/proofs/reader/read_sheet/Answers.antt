@@ -1,11 +1,30 @@
-use Rattle.std.proofs.Common.{◌≡◌, length, take, drop, refl, zero-add, arith}
+use Rattle.std.proofs.Common.{◌≡◌, ℕ, ◌≤◌, List, length, take, drop, None, refl, zero-add, arith}
 use Rattle.std.proofs.lemmas.List.{take_at}
 use Rattle.sheet.specs.Lines.{numbered}
-use Rattle.sheet.specs.Sheet.{no_rows, points_in, faces_in}
+use Rattle.sheet.specs.Checks.{first_fit}
+use Rattle.sheet.specs.Passes.{total}
+use Rattle.sheet.specs.Sheet.{no_rows, lines_checks, points_in, faces_in, point_limit, face_limit}
 use Rattle.sheet.specs.declared.counts.RowCounts.{RowCounts}
 use Rattle.sheet.proofs.Sound.{sound}
 use Rattle.sheet.proofs.Walking.{counts_are}
 use Rattle.sheet.proofs.reader.read_sheet.Goals as goal
+
+-- lines with no fault in such room add up to what a draft may hold
+within_limits : (room c : RowCounts) (ls : List (ℕ × List ℕ)) → room.points ≤ point_limit → room.faces ≤ face_limit → None ≡ first_fit (lines_checks room no_rows ls) → c ≡ total no_rows ls
+    → (c.points ≤ point_limit) × (c.faces ≤ face_limit)
+within_limits room c ls h k e p =
+    let s = sound room ls _ _ h k e refl refl in
+    let n = counts_are no_rows ls in rw (p, n.0, n.1, zero-add, zero-add) (s.point_count, s.face_count)
+
+pub new-requires-clause-points : goal.new-requires-clause-points
+new-requires-clause-points c =
+    let room : RowCounts = record { points = c.min-point_room.result; faces = c.min-face_room.result } in
+    (within_limits room _ (numbered c.args.text.now) (omega arith) (omega arith) c.in_ok-counts.ensures.fault c.in_ok-counts.ensures.counts).0
+
+pub new-requires-clause-faces : goal.new-requires-clause-faces
+new-requires-clause-faces c =
+    let room : RowCounts = record { points = c.min-point_room.result; faces = c.min-face_room.result } in
+    (within_limits room _ (numbered c.args.text.now) (omega arith) (omega arith) c.in_ok-counts.ensures.fault c.in_ok-counts.ensures.counts).1
 
 pub returns-clause-draft : goal.returns-clause-draft
 returns-clause-draft c =

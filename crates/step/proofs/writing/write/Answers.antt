@@ -10,7 +10,7 @@ pub returns-clause-back : goal.returns-clause-back
 returns-clause-back c =
     let rows = take c.args.draft.now.points c.args.points.now in
     let out = c.args.out.now in
-    let k : c.points-count.result - 0 ≡ c.args.draft.now.points = omega (arith, c.points-count.ensures) in
+    let k : c.points-count.result - 0 ≡ c.args.draft.now.points = omega (arith, c.points-count.ensures.count) in
     let same = ap (λ m. record_of (take m c.args.points.now)) k in
     let s = counted_step rows in
     let front = take_at (record_of rows) (drop (length (record_of rows)) out) _ (sym (c.put_rows.ensures.len ∙ ap length same)) in
