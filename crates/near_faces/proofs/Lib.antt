@@ -1,0 +1,5 @@
+pub mod Sweeping
+pub mod Meeting
+pub mod Halving
+pub mod Listing
+pub mod Completing

@@ -1,0 +1,5 @@
+use Rattle.std.proofs.Common.{length}
+use Rattle.near_faces.proofs.pairs.+list_one.Given as goal
+
+abbrev pub decreases-list_one : goal.decreases-list_one
+decreases-list_one l = length l.run.now

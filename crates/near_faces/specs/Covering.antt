@@ -1,0 +1,40 @@
+-- What the near pairs are for: offered all, they cover the whole sheet.
+use Rattle.std.specs.Prelude.{◌≡◌, ℕ, ◌<◌, Bool, IsFalse, List, All, Any, length}
+use Rattle.sheet.specs.declared.drafts.Draft.{Draft}
+use Rattle.motion.specs.declared.shapes.Shape.{Shape}
+use Rattle.motion.specs.Laws.{Lawful, Apart}
+use Rattle.inspection.specs.declared.names.VfName.{VfName}
+use Rattle.inspection.specs.declared.names.EeName.{EeName}
+use Rattle.inspection.specs.Lists.{has}
+use Rattle.inspection.specs.Offerings.{SameOffering}
+use Rattle.inspection.specs.declared.offerings.Offering.TheVariants.{Faces}
+use Rattle.inspection.specs.Runs.{Accepted, Run}
+use Rattle.inspection.specs.Sheets.{Sheet}
+use Rattle.inspection.specs.States.{State}
+use Rattle.inspection.specs.Tests.{Naming, vf_naming, ee_naming}
+use Rattle.near_faces.specs.declared.pairs.Pair.{Pair}
+
+-- of every two different faces, near or far, what has no point in common and is not listed stays
+-- apart for the whole step
+abbrev pub AllApart : {E : Type 0} → Naming E → Sheet → List E → Type 0
+AllApart n s es =
+    (f g : ℕ) → f < length s.faces → g < length s.faces → ¬ (f ≡ g)
+    → All (λ e. IsFalse (n.shared s e) → IsFalse (has n.same e es) → Apart (n.shape s e))
+    (n.tests s (Faces f g))
+
+pub record WholeSheetApart (s : Sheet) (vfs : List VfName) (ees : List EeName) : Type 0 where
+  pub vf : AllApart vf_naming s vfs
+  pub ee : AllApart ee_naming s ees
+
+-- the accepted offers have each of these pairs, in either order
+abbrev pub HasAll : List Pair → List Accepted → Type 0
+HasAll ps history =
+    All (λ p. Any (λ o. SameOffering (Faces p.first p.second) o.what) history) ps
+
+-- by whatever lawful set, a run whose accepted offers have all of these pairs leaves no touch of
+-- the sheet unlisted
+abbrev pub Covers : Draft → Sheet → List Pair → Type 0
+Covers d s ps =
+    (set : Shape → Bool) → Lawful set → (history : List Accepted) (t : State)
+    → Run set d s history t → HasAll ps history
+    → WholeSheetApart s t.vf.entries t.ee.entries

@@ -1,0 +1,116 @@
+// The search for near faces.
+ghost use Rattle.std.specs.Prelude.{◌≡◌, ◌≤◌, length, is_ok, if◌then◌else◌, IfOk, None};
+ghost use Rattle.sheet.specs.Checks.{first_fit, fault_notice};
+ghost use Rattle.sheet.specs.Sheet.{onto_front};
+ghost use Rattle.inspection.specs.Sheets.{sheet_in, sheet_of};
+ghost use Rattle.inspection.specs.Tests.{corners_below};
+ghost use Rattle.near_faces.specs.Boxes.{swept_boxes};
+ghost use Rattle.near_faces.specs.Near.{near, near_pairs, NearPairs};
+ghost use Rattle.near_faces.specs.Searches.{notice_of_search, search_checks, lowest_outside, table_checks, NodesAfter};
+ghost use Rattle.near_faces.specs.Covering.{Covers};
+
+use crate::boxes::SweptBox;
+use crate::faults::SearchFault;
+use crate::nodes::{Node, build};
+use crate::pairs::{Pair, list_all};
+use sheet::{Draft, FACE_LIMIT, Face, Point};
+
+/// Finds all pairs of different faces whose swept boxes overlap or touch on all three axes: writes
+/// them, the lower number first and in ascending order, into the front of `pairs`, and answers
+/// their number. `points` and `faces` are the sheet's tables, and may have more rows than it.
+///
+/// Into the first 2·faces − 1 places of `nodes` goes the tree over the boxes, also where there are
+/// too many pairs. Any other fault leaves that table as it was, and every fault the other.
+///
+/// Offered all to an inspection, these pairs cover the whole sheet: what shares no point and is on
+/// no list stays apart, near or far.
+pub fn find_near(
+    draft: &Draft,
+    points: &[Point],
+    faces: &[Face],
+    nodes: &mut [Node],
+    pairs: &mut [Pair],
+) -> Result<usize, SearchFault>
+    ensures fault { fault_notice notice_of_search result
+        ≡ first_fit (search_checks draft.now points.now faces.now (length nodes.old) (length pairs.old)) }
+    ensures count { let s = sheet_in draft.now points.now faces.now in
+        IfOk result (λ n. n ≡ length (near_pairs s)) }
+    ensures pairs { let s = sheet_in draft.now points.now faces.now in
+        pairs.new ≡ (if is_ok result then onto_front (near_pairs s) pairs.old else pairs.old) }
+    ensures nodes { let s = sheet_in draft.now points.now faces.now in
+        NodesAfter (swept_boxes s) result nodes.old nodes.new }
+    ensures near { let s = sheet_in draft.now points.now faces.now in
+        NearPairs (swept_boxes s) (near_pairs s) }
+    ensures covers { let s = sheet_in draft.now points.now faces.now in
+        Covers draft.now s (near_pairs s) }
+{
+    let (m, n) = (draft.points() as usize, draft.faces() as usize);
+    if points.len() < m || faces.len() < n {
+        return Err(SearchFault::TableTooShort);
+    }
+    let (points, faces) = (&points[..m], &faces[..n]);
+    if let Some(face) = lowest_outside(points, faces) {
+        return Err(SearchFault::NoSuchPoint(face as u16));
+    }
+    let mut table = [SweptBox::default(); FACE_LIMIT as usize];
+    let boxes = &mut table[..n];
+    sweep(points, faces, boxes);
+    search(boxes, nodes, pairs)
+}
+
+/// The lowest face that names a point which there is not.
+fn lowest_outside(points: &[Point], faces: &[Face]) -> Option<usize>
+    ensures { result ≡ lowest_outside (sheet_of points.now faces.now) }
+{
+    faces
+        .iter()
+        .position(|face| !has_corners_below(points.len(), *face))
+}
+
+/// Whether each corner is one of so many points.
+fn has_corners_below(points: usize, face: Face) -> bool
+    ensures { result ≡ corners_below points face }
+{
+    usize::from(face.a) < points && usize::from(face.b) < points && usize::from(face.c) < points
+}
+
+/// Writes what each face takes up over the whole step.
+fn sweep(points: &[Point], faces: &[Face], boxes: &mut [SweptBox])
+    requires inside { None ≡ lowest_outside (sheet_of points.now faces.now) }
+    requires room { length boxes.old ≡ length faces.now }
+    ensures { boxes.new ≡ swept_boxes (sheet_of points.now faces.now) }
+{
+    for i in 0..faces.len() {
+        boxes[i] = SweptBox::of_face(points, faces[i]);
+    }
+}
+
+/// Finds the pairs of boxes that meet.
+fn search(
+    boxes: &[SweptBox],
+    nodes: &mut [Node],
+    pairs: &mut [Pair],
+) -> Result<usize, SearchFault>
+    requires { length boxes.now ≤ 4096 }
+    ensures fault { fault_notice notice_of_search result
+        ≡ first_fit (table_checks boxes.now (length nodes.old) (length pairs.old)) }
+    ensures count { IfOk result (λ n. n ≡ length (near boxes.now)) }
+    ensures pairs { pairs.new
+        ≡ (if is_ok result then onto_front (near boxes.now) pairs.old else pairs.old) }
+    ensures nodes { NodesAfter boxes.now result nodes.old nodes.new }
+{
+    if boxes.is_empty() {
+        return Ok(0);
+    }
+    let places = 2 * boxes.len() - 1;
+    if nodes.len() < places {
+        return Err(SearchFault::TooFewNodes);
+    }
+    build(boxes, 0, &mut nodes[..places]);
+    let tree = &nodes[..places];
+    let count = list_all(tree, boxes, &mut []);
+    if count > pairs.len() {
+        return Err(SearchFault::TooManyPairs);
+    }
+    Ok(list_all(tree, boxes, pairs))
+}

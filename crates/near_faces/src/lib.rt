@@ -1,0 +1,14 @@
+//! Finding near faces: a tree over the boxes that faces sweep, and all pairs of boxes that meet.
+#![tactic(auto)]
+
+mod boxes;
+mod faults;
+mod finding;
+mod nodes;
+mod pairs;
+
+pub use boxes::SweptBox;
+pub use faults::SearchFault;
+pub use finding::find_near;
+pub use nodes::Node;
+pub use pairs::Pair;
