@@ -1,18 +1,29 @@
--- A face's box, from those of its corners.
-use Rattle.std.proofs.Common.{◌≡◌, ℤ, [], ◌∷◌, arith}
+-- A face's box from those of its corners, and the boxes of the faces one after another.
+use Rattle.std.proofs.Common.{◌≡◌, ℕ, zero, suc, ◌+◌, ◌<◌, ◌≤◌, Bool, true, false, not, cond, ltb, ℤ, List, [], ◌∷◌, ◌++◌, length, map, get_or, set, take, drop, Some, None, refl, sym, ap, ◌∙◌, arith, lt-ltb, le-ltb}
+use Rattle.std.proofs.Math.ListN.{get_or-map}
+use Rattle.std.proofs.lemmas.Bool.{not_from_false}
 use Rattle.std.proofs.lemmas.Int.{ints, clamps}
+use Rattle.std.proofs.lemmas.List.Sums.{position_or_len_is}
 use Rattle.std.specs.Int.{int_min, int_max}
+use Rattle.std.specs.List.{position}
+use Rattle.sheet.specs.declared.rows.Face.{Face}
+use Rattle.sheet.specs.declared.rows.Point.{Point}
 use Rattle.motion.specs.declared.shapes.Moving.{Moving}
-use Rattle.near_faces.specs.Boxes.{joined, swept_by, box_around}
+use Rattle.inspection.specs.Sheets.{Sheet, moving_of, nowhere, sheet_of, point_at, face_at, no_face}
+use Rattle.inspection.specs.Tests.{corners_inside}
+use Rattle.near_faces.specs.declared.boxes.SweptBox.{SweptBox}
+use Rattle.near_faces.specs.Boxes.{joined, swept_by, box_around, swept_box}
+use Rattle.near_faces.specs.Searches.{lowest_outside}
 
+-- ---- of one face
 min_six : (a b c d e f : ℤ) → int_min (int_min a b) (int_min (int_min c d) (int_min e f)) ≡ int_min a (int_min b (int_min c (int_min d (int_min e f))))
 min_six a b c d e f = omega (arith, ints, clamps)
 
 max_six : (a b c d e f : ℤ) → int_max (int_max a b) (int_max (int_max c d) (int_max e f)) ≡ int_max a (int_max b (int_max c (int_max d (int_max e f))))
 max_six a b c d e f = omega (arith, ints, clamps)
 
-pub three_corners : (a b c : Moving) → joined (swept_by a) (joined (swept_by b) (swept_by c)) ≡ box_around (a ∷ b ∷ c ∷ [])
-three_corners a b c = λ i.
+three_points : (a b c : Moving) → joined (swept_by a) (joined (swept_by b) (swept_by c)) ≡ box_around (a ∷ b ∷ c ∷ [])
+three_points a b c = λ i.
     record {
       least = record {
         x = min_six a.start.x a.end.x b.start.x b.end.x c.start.x c.end.x i;
@@ -25,3 +36,39 @@ three_corners a b c = λ i.
         z = max_six a.start.z a.end.z b.start.z b.end.z c.start.z c.end.z i;
       };
     }
+
+-- the box of a face whose corners are these rows
+pub face_box : (ps : List Point) (f : Face) (a b c : Point) → a ≡ get_or ps f.a nowhere → b ≡ get_or ps f.b nowhere → c ≡ get_or ps f.c nowhere
+    → joined (swept_by (moving_of a)) (joined (swept_by (moving_of b)) (swept_by (moving_of c))) ≡ swept_box (sheet_of ps []) f
+face_box ps f a b c p q r =
+    let at = λ (x : Point) (i : ℕ) (e : x ≡ get_or ps i nowhere). ap moving_of e ∙ sym (get_or-map moving_of ps i nowhere) in
+    three_points (moving_of a) (moving_of b) (moving_of c) ∙ (λ i. box_around (at a f.a p i ∷ at b f.b q i ∷ at c f.c r i ∷ []))
+
+-- ---- of one face after another
+-- the next one's
+pub one_more : {A B : Type 0} (f : A → B) (xs : List A) (ys : List B) (i : ℕ) (d : A) → i < length xs → length ys ≡ length xs
+    → set (map f (take i xs) ++ drop i ys) i (f (get_or xs i d)) ≡ map f (take (i + 1) xs) ++ drop (i + 1) ys
+one_more f [] ys i d h e = absurd (omega arith)
+one_more f (x ∷ xs) [] i d h e = absurd (omega arith)
+one_more f (x ∷ xs) (y ∷ ys) zero d h e = refl
+one_more f (x ∷ xs) (y ∷ ys) (suc i) d h e = ap (λ l. f x ∷ l) (one_more f xs ys i d (omega arith) (omega arith))
+
+module _ (s : Sheet) where
+  -- each face below this number has its corners among the points
+  abbrev pub InsideBelow : ℕ → Type 0
+  InsideBelow i = (k : ℕ) → k < i → corners_inside s (face_at s k) ≡ true
+
+  first_at : (i : ℕ) → i ≤ length s.faces → InsideBelow i → (i < length s.faces → corners_inside s (face_at s i) ≡ false) → lowest_outside s ≡ cond (ltb i (length s.faces)) (Some i) None
+  first_at i h below here =
+      let outside = λ (f : Face). not (corners_inside s f) in
+      ap (λ n. cond (ltb n (length s.faces)) (Some n) None)
+      (position_or_len_is outside s.faces i no_face h (λ k l. ap not (below k l)) (λ l. not_from_false _ (here l)))
+
+  pub lowest_is : (i : ℕ) → i < length s.faces → InsideBelow i → corners_inside s (face_at s i) ≡ false → lowest_outside s ≡ Some i
+  lowest_is i h below here =
+      first_at i (omega arith) below (λ l. here) ∙ ap (λ t. cond t (Some i) None) (lt-ltb i (length s.faces) h)
+
+  pub none_is : InsideBelow (length s.faces) → lowest_outside s ≡ None
+  none_is below =
+      let n = length s.faces in
+      first_at n (omega arith) below (λ l. absurd (omega arith)) ∙ ap (λ t. cond t (Some n) None) (le-ltb n n (omega arith))

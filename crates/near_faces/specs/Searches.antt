@@ -1,5 +1,5 @@
 -- A search: its checks, in their order, and what it leaves.
-use Rattle.std.specs.Prelude.{◌≡◌, ℕ, not, List, [], ◌∷◌, length, nat_lt, Ok, Err, Option, Result, is_some, unwrap_or}
+use Rattle.std.specs.Prelude.{◌≡◌, ℕ, not, List, [], ◌∷◌, ◌++◌, length, nat_lt, Ok, Err, Option, Result, is_some, unwrap_or}
 use Rattle.std.specs.List.{position}
 use Rattle.sheet.specs.Checks.{Check, check, notice}
 use Rattle.sheet.specs.declared.drafts.Draft.{Draft}
@@ -28,6 +28,11 @@ notice_of_search TooManyPairs = notice 25 Search 0 0
 abbrev pub lowest_outside : Sheet → Option ℕ
 lowest_outside s = position (λ f. not (corners_inside s f)) s.faces
 
+abbrev pub corner_checks : Sheet → List Check
+corner_checks s =
+    let outside = lowest_outside s in
+    check (is_some outside) 19 Search (unwrap_or outside 0) 0 ∷ []
+
 -- the places that there are for nodes and for pairs, against what these boxes need
 abbrev pub table_checks : List SweptBox → ℕ → ℕ → List Check
 table_checks boxes nodes pairs =
@@ -37,10 +42,8 @@ table_checks boxes nodes pairs =
 abbrev pub search_checks : Draft → List Point → List Face → ℕ → ℕ → List Check
 search_checks d ps fs nodes pairs =
     let s = sheet_in d ps fs in
-    let outside = lowest_outside s in
     check (lacks_rows d ps fs) 16 Search 0 0
-    ∷ check (is_some outside) 19 Search (unwrap_or outside 0) 0
-    ∷ table_checks (swept_boxes s) nodes pairs
+    ∷ (corner_checks s ++ table_checks (swept_boxes s) nodes pairs)
 
 -- the table of nodes, old before and new after: the tree is built unless a check before it fits
 abbrev pub NodesAfter : List SweptBox → Result ℕ SearchFault → List Node → List Node → Type 0

@@ -1,9 +1,8 @@
 // Boxes with sides along the axes, as faces sweep them.
-ghost use Rattle.std.specs.Prelude.{◌≡◌, [], IsTrue, length};
+ghost use Rattle.std.specs.Prelude.{◌≡◌, []};
 ghost use Rattle.std.specs.Int.{int_min, int_max};
 ghost use Rattle.inspection.specs.Sheets.{moving_of, sheet_of};
-ghost use Rattle.inspection.specs.Tests.{corners_below};
-ghost use Rattle.near_faces.specs.Boxes.{at_most, least_of, greatest_of, joined, meets, swept_box, swept_by};
+ghost use Rattle.near_faces.specs.Boxes.{at_most, least_of, greatest_of, joined, meets, swept_if_inside, swept_by};
 
 use sheet::{Coords, Face, Point};
 
@@ -15,16 +14,15 @@ pub struct SweptBox {
 }
 
 impl SweptBox {
-    /// What a face takes up over the whole step, all coordinates as they count.
-    #[tactic(auto, using(crate::proofs::Sweeping::three_corners))]
-    pub(crate) fn of_face(points: &[Point], face: Face) -> SweptBox
-        requires { IsTrue (corners_below (length points.now) face) }
-        ensures { result ≡ swept_box (sheet_of points.now []) face }
+    /// What a face takes up over the whole step, all coordinates as they count; nothing where it
+    /// names a point that there is not.
+    pub(crate) fn of_face(points: &[Point], face: Face) -> Option<SweptBox>
+        ensures { result ≡ swept_if_inside (sheet_of points.now []) face }
     {
-        let a = SweptBox::of_point(points[face.a as usize]);
-        let b = SweptBox::of_point(points[face.b as usize]);
-        let c = SweptBox::of_point(points[face.c as usize]);
-        a.join(b.join(c))
+        let a = SweptBox::of_point(*points.get(face.a as usize)?);
+        let b = SweptBox::of_point(*points.get(face.b as usize)?);
+        let c = SweptBox::of_point(*points.get(face.c as usize)?);
+        Some(a.join(b.join(c)))
     }
 
     fn of_point(point: Point) -> SweptBox

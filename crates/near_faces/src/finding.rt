@@ -1,12 +1,11 @@
 // The search for near faces.
-ghost use Rattle.std.specs.Prelude.{◌≡◌, ◌≤◌, length, is_ok, if◌then◌else◌, IfOk, None};
+ghost use Rattle.std.specs.Prelude.{◌≡◌, ◌≤◌, length, is_ok, if◌then◌else◌, IfOk};
 ghost use Rattle.sheet.specs.Checks.{first_fit, fault_notice};
 ghost use Rattle.sheet.specs.Sheet.{onto_front};
 ghost use Rattle.inspection.specs.Sheets.{sheet_in, sheet_of};
-ghost use Rattle.inspection.specs.Tests.{corners_below};
 ghost use Rattle.near_faces.specs.Boxes.{swept_boxes};
 ghost use Rattle.near_faces.specs.Near.{near, near_pairs, NearPairs};
-ghost use Rattle.near_faces.specs.Searches.{notice_of_search, search_checks, lowest_outside, table_checks, NodesAfter};
+ghost use Rattle.near_faces.specs.Searches.{notice_of_search, search_checks, corner_checks, table_checks, NodesAfter};
 ghost use Rattle.near_faces.specs.Covering.{Covers};
 
 use crate::boxes::SweptBox;
@@ -49,40 +48,28 @@ pub fn find_near(
         return Err(SearchFault::TableTooShort);
     }
     let (points, faces) = (&points[..m], &faces[..n]);
-    if let Some(face) = lowest_outside(points, faces) {
-        return Err(SearchFault::NoSuchPoint(face as u16));
-    }
     let mut table = [SweptBox::default(); FACE_LIMIT as usize];
     let boxes = &mut table[..n];
-    sweep(points, faces, boxes);
+    sweep(points, faces, boxes)?;
     search(boxes, nodes, pairs)
 }
 
-/// The lowest face that names a point which there is not.
-fn lowest_outside(points: &[Point], faces: &[Face]) -> Option<usize>
-    ensures { result ≡ lowest_outside (sheet_of points.now faces.now) }
-{
-    faces
-        .iter()
-        .position(|face| !has_corners_below(points.len(), *face))
-}
-
-/// Whether each corner is one of so many points.
-fn has_corners_below(points: usize, face: Face) -> bool
-    ensures { result ≡ corners_below points face }
-{
-    usize::from(face.a) < points && usize::from(face.b) < points && usize::from(face.c) < points
-}
-
-/// Writes what each face takes up over the whole step.
-fn sweep(points: &[Point], faces: &[Face], boxes: &mut [SweptBox])
-    requires inside { None ≡ lowest_outside (sheet_of points.now faces.now) }
+/// Writes what each face takes up over the whole step, unless a face names a point that there is
+/// not.
+fn sweep(points: &[Point], faces: &[Face], boxes: &mut [SweptBox]) -> Result<(), SearchFault>
+    requires few { length faces.now ≤ 4096 }
     requires room { length boxes.old ≡ length faces.now }
-    ensures { boxes.new ≡ swept_boxes (sheet_of points.now faces.now) }
+    ensures fault { fault_notice notice_of_search result
+        ≡ first_fit (corner_checks (sheet_of points.now faces.now)) }
+    ensures boxes { IfOk result (λ _. boxes.new ≡ swept_boxes (sheet_of points.now faces.now)) }
 {
     for i in 0..faces.len() {
-        boxes[i] = SweptBox::of_face(points, faces[i]);
+        let Some(swept) = SweptBox::of_face(points, faces[i]) else {
+            return Err(SearchFault::NoSuchPoint(i as u16));
+        };
+        boxes[i] = swept;
     }
+    Ok(())
 }
 
 /// Finds the pairs of boxes that meet.
