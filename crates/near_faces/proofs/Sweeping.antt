@@ -1,5 +1,6 @@
 -- A face's box from those of its corners, and the boxes of the faces one after another.
 use Rattle.std.proofs.Common.{◌≡◌, ℕ, zero, suc, ◌+◌, ◌<◌, ◌≤◌, Bool, true, false, not, cond, ltb, ℤ, List, [], ◌∷◌, ◌++◌, length, map, get_or, set, take, drop, Some, None, refl, sym, ap, ◌∙◌, arith, lt-ltb, le-ltb}
+use native.Mathlib.Numerals.{unary_clauses}
 use Rattle.std.proofs.Math.ListN.{get_or-map}
 use Rattle.std.proofs.lemmas.Bool.{not_from_false}
 use Rattle.std.proofs.lemmas.Int.{ints, clamps}
@@ -51,7 +52,7 @@ pub one_more : {A B : Type 0} (f : A → B) (xs : List A) (ys : List B) (i : ℕ
 one_more f [] ys i d h e = absurd (omega arith)
 one_more f (x ∷ xs) [] i d h e = absurd (omega arith)
 one_more f (x ∷ xs) (y ∷ ys) zero d h e = refl
-one_more f (x ∷ xs) (y ∷ ys) (suc i) d h e = ap (λ l. f x ∷ l) (one_more f xs ys i d (omega arith) (omega arith))
+one_more f (x ∷ xs) (y ∷ ys) (suc i) d h e = simp unary_clauses (ap (λ l. f x ∷ l) (simp unary_clauses at one_more f xs ys i d (omega arith) (omega arith)))
 
 module _ (s : Sheet) where
   -- each face below this number has its corners among the points

@@ -73,6 +73,7 @@ fn sweep(points: &[Point], faces: &[Face], boxes: &mut [SweptBox]) -> Result<(),
 }
 
 /// Finds the pairs of boxes that meet.
+#[tactic(auto, using(crate::proofs::Listing::put_fits))]
 fn search(
     boxes: &[SweptBox],
     nodes: &mut [Node],
