@@ -3,3 +3,5 @@ pub mod Meeting
 pub mod Halving
 pub mod Listing
 pub mod Completing
+pub mod FarApart
+pub mod Covering

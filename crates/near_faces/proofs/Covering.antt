@@ -1,0 +1,92 @@
+-- Offered all, the near pairs cover the whole sheet: faces whose boxes do not meet stay apart.
+use Rattle.std.proofs.Common.{◌≡◌, ℕ, ◌<◌, Bool, true, false, List, [], get_or, take, length, refl, ◌∙◌, inr, ⊎_elim, All, Contains, arith}
+use Rattle.std.proofs.Math.ListN.{get_or-map as get_or-map_default}
+use Rattle.std.specs.Prelude.{IsFalse, Any}
+use Rattle.std.proofs.lemmas.Bool.{cases_Bool, cases_lt}
+use Rattle.std.proofs.lemmas.List.{length-map, get_or-map}
+use Rattle.std.proofs.lemmas.List.Elements.{All-weaker, All-contains, All-contains_itself}
+use Rattle.sheet.specs.declared.drafts.Draft.{Draft}
+use Rattle.sheet.specs.declared.rows.Point.{Point}
+use Rattle.sheet.specs.declared.rows.Face.{Face}
+use Rattle.motion.specs.declared.shapes.Shape.{Shape}
+use Rattle.motion.specs.Laws.{InReach, Apart}
+use Rattle.motion.proofs.BoxLaws.{box-lawful}
+use Rattle.inspection.specs.declared.names.VfName.{VfName}
+use Rattle.inspection.specs.declared.names.EeName.{EeName}
+use Rattle.inspection.specs.declared.offerings.Offering.{Offering}
+use Rattle.inspection.specs.declared.offerings.Offering.TheVariants.{Faces}
+use Rattle.inspection.specs.Claims.{Claim}
+use Rattle.inspection.specs.Lists.{has}
+use Rattle.inspection.specs.Offerings.{SameOffering}
+use Rattle.inspection.specs.Runs.{Accepted}
+use Rattle.inspection.specs.Sheets.{Sheet, moving_of, nowhere, no_face, point_at, face_at, sheet_in}
+use Rattle.inspection.specs.States.{Core}
+use Rattle.inspection.specs.Tests.{Naming, vf_naming, ee_naming}
+use Rattle.inspection.proofs.NamingLaws.{NamingLaws, alike, vf_laws, ee_laws}
+use Rattle.inspection.proofs.Claiming.{claim}
+use Rattle.inspection.proofs.Coordinates.{in_reach}
+use Rattle.near_faces.specs.Boxes.{box_around, corners, swept_box, swept_boxes, meets}
+use Rattle.near_faces.specs.Near.{pair, near_pairs, Near}
+use Rattle.near_faces.specs.Covering.{AllApart, WholeSheetApart, HasAll, Covers}
+use Rattle.near_faces.proofs.Completing.{complete}
+use Rattle.near_faces.proofs.FarApart.{IsBetween, TestsBetween, struck_between, vf_between, ee_between}
+
+-- ---- of the tests of one kind, and what is listed of them
+module _ {E : Type 0} (n : Naming E) (each : ℕ) (s : Sheet) (laws : NamingLaws n each s) (es : List E) where
+  abbrev Stays : E → Type 0
+  Stays e = IsFalse (n.shared s e) → IsFalse (has n.same e es) → Apart (n.shape s e)
+
+  abbrev AllStay : Offering → Type 0
+  AllStay o = All Stays (n.tests s o)
+
+  -- two faces have the same tests in either order
+  alike_stay : (o p : Offering) → SameOffering o p → AllStay p → AllStay o
+  alike_stay o p same all =
+      All-weaker (Contains (n.tests s o)) Stays (λ e c u. All-contains Stays (n.tests s p) e all (alike n each s laws o p same e c u) u) (n.tests s o) (All-contains_itself (n.tests s o))
+
+  abbrev boxes_meet : ℕ → ℕ → Bool
+  boxes_meet f g = meets (swept_box s (face_at s f)) (swept_box s (face_at s g))
+
+  module _ (between : TestsBetween n s) (reach : (k : ℕ) → InReach 0 (point_at s k)) where
+    -- two faces whose boxes do not meet: Box strikes each of their tests, whatever was offered
+    far : (f g : ℕ) → boxes_meet f g ≡ false → AllStay (Faces f g)
+    far f g h =
+        All-weaker (IsBetween n s f g) Stays
+        (λ e b u l. box-lawful.apart (n.shape s e) (laws.valid reach e) (struck_between (corners s (face_at s f)) (corners s (face_at s g)) (n.shape s e) b h))
+        (n.tests s (Faces f g)) (between f g)
+
+    module _ (history : List Accepted) (accepted : All (λ o. AllStay o.what) history) (has_all : HasAll (near_pairs s) history) where
+      -- two faces whose boxes meet: they were accepted
+      near : (f g : ℕ) → f < g → g < length s.faces → boxes_meet f g ≡ true → AllStay (Faces f g)
+      near f g less inside m =
+          let at = λ (k : ℕ) (h : k < length s.faces). get_or-map (swept_box s) s.faces k no_face (box_around []) h in
+          let is_near : Near (swept_boxes s) (pair f g) = record {
+            lower_first = less;
+            within = omega (arith, length-map s.faces (swept_box s));
+            meet = (λ i. meets (at f (omega arith) i) (at g inside i)) ∙ m;
+          } in
+          let (k, o, here, is, same) = All-contains (λ p. Any (λ o. SameOffering (Faces p.first p.second) o.what) history) (near_pairs s) (pair f g) has_all ((complete (swept_boxes s)).all (pair f g) is_near) in
+          alike_stay (Faces f g) o.what same (All-contains (λ o. AllStay o.what) history o accepted (k, here, is))
+
+      in_order : (f g : ℕ) → f < g → g < length s.faces → AllStay (Faces f g)
+      in_order f g less inside = ⊎_elim (near f g less inside) (far f g) (cases_Bool (boxes_meet f g))
+
+      all_apart : AllApart n s es
+      all_apart f g hf hg two =
+          ⊎_elim (λ less. in_order f g less hg) (λ le. alike_stay (Faces f g) (Faces g f) (inr (refl, refl)) (in_order g f (omega arith) hf)) (cases_lt f g)
+
+-- ---- of both
+pub whole_sheet : (set : Shape → Bool) (d : Draft) (s : Sheet) → ((k : ℕ) → InReach 0 (point_at s k)) → (history : List Accepted) (core : Core) (vfs : List VfName) (ees : List EeName)
+    → Claim set d s history core vfs ees → HasAll (near_pairs s) history → WholeSheetApart s vfs ees
+whole_sheet set d s reach history core vfs ees c has_all =
+    record {
+      vf = all_apart vf_naming 6 s (vf_laws s) vfs (vf_between s) reach history c.vf.apart has_all;
+      ee = all_apart ee_naming 9 s (ee_laws s) ees (ee_between s) reach history c.ee.apart has_all;
+    }
+
+pub covering : (d : Draft) (ps : List Point) (fs : List Face) → Covers d (sheet_in d ps fs) (near_pairs (sheet_in d ps fs))
+covering d ps fs set law history t run has_all =
+    let s = sheet_in d ps fs in
+    let points = take d.points ps in
+    let reach = λ (k : ℕ). in_reach (get_or points k nowhere) (point_at s k) (get_or-map_default moving_of points k nowhere) in
+    whole_sheet set d s reach history t.core t.vf.entries t.ee.entries (claim law d s history t run) has_all
