@@ -1,8 +1,9 @@
 -- A face's box from those of its corners, and the boxes of the faces one after another.
-use Rattle.std.proofs.Common.{◌≡◌, ℕ, zero, suc, ◌+◌, ◌<◌, ◌≤◌, Bool, true, false, not, cond, ltb, ℤ, List, [], ◌∷◌, ◌++◌, length, map, get_or, set, take, drop, Some, None, refl, sym, ap, ◌∙◌, arith, lt-ltb, le-ltb}
+use Rattle.std.proofs.Common.{◌≡◌, ◌⊎◌, ℕ, zero, suc, ◌+◌, ◌<◌, ◌≤◌, Bool, true, false, not, cond, ltb, ℤ, List, [], ◌∷◌, ◌++◌, length, map, get_or, set, take, drop, Some, None, Option, refl, subst, inl, inr, ⊎_elim, sym, ap, ◌∙◌, arith, lt-ltb, le-ltb, ltb-true, ltb-false}
+use Rattle.std.proofs.lemmas.Option.{none-some}
 use native.Mathlib.Numerals.{unary_clauses}
 use Rattle.std.proofs.Math.ListN.{get_or-map}
-use Rattle.std.proofs.lemmas.Bool.{not_from_false}
+use Rattle.std.proofs.lemmas.Bool.{cases_Bool, not_from_false}
 use Rattle.std.proofs.lemmas.Int.{ints, clamps}
 use Rattle.std.proofs.lemmas.List.Sums.{position_or_len_is}
 use Rattle.std.specs.Int.{int_min, int_max}
@@ -13,8 +14,11 @@ use Rattle.motion.specs.declared.shapes.Moving.{Moving}
 use Rattle.inspection.specs.Sheets.{Sheet, moving_of, nowhere, sheet_of, point_at, face_at, no_face}
 use Rattle.inspection.specs.Tests.{corners_inside}
 use Rattle.near_faces.specs.declared.boxes.SweptBox.{SweptBox}
-use Rattle.near_faces.specs.Boxes.{joined, swept_by, box_around, swept_box}
-use Rattle.near_faces.specs.Searches.{lowest_outside}
+use Rattle.near_faces.specs.Boxes.{joined, swept_by, box_around, swept_box, swept_if_inside}
+use Rattle.near_faces.specs.Searches.{lowest_outside, corner_checks}
+use Rattle.sheet.specs.Checks.{first_fit, notice, check}
+use Rattle.sheet.specs.declared.notices.Layer.TheVariants.{Search}
+use Rattle.std.specs.Option.{is_some, option_map, unwrap_or}
 
 -- ---- of one face
 min_six : (a b c d e f : ℤ) → int_min (int_min a b) (int_min (int_min c d) (int_min e f)) ≡ int_min a (int_min b (int_min c (int_min d (int_min e f))))
@@ -52,7 +56,10 @@ pub one_more : {A B : Type 0} (f : A → B) (xs : List A) (ys : List B) (i : ℕ
 one_more f [] ys i d h e = absurd (omega arith)
 one_more f (x ∷ xs) [] i d h e = absurd (omega arith)
 one_more f (x ∷ xs) (y ∷ ys) zero d h e = refl
-one_more f (x ∷ xs) (y ∷ ys) (suc i) d h e = simp unary_clauses (ap (λ l. f x ∷ l) (simp unary_clauses at one_more f xs ys i d (omega arith) (omega arith)))
+one_more {A} {B} f (x ∷ xs) (y ∷ ys) (suc i) d h e =
+    let next : i + 1 ≡ suc i = omega arith in
+    simp unary_clauses
+    (ap (λ l. f x ∷ l) (one_more f xs ys i d (omega arith) (omega arith)) ∙ (λ j. f x ∷ (map f (take (next j) xs) ++ drop (next j) ys)))
 
 module _ (s : Sheet) where
   -- each face below this number has its corners among the points
@@ -73,3 +80,32 @@ module _ (s : Sheet) where
   none_is below =
       let n = length s.faces in
       first_at n (omega arith) below (λ l. absurd (omega arith)) ∙ ap (λ t. cond t (Some n) None) (le-ltb n n (omega arith))
+
+  pub below_more : (i : ℕ) → InsideBelow i → corners_inside s (face_at s i) ≡ true → InsideBelow (i + 1)
+  below_more i below here k h =
+      ⊎_elim (λ t. below k (ltb-true k i t))
+      (λ t. let e : i ≡ k = omega (arith, ltb-false k i t) in subst (λ (j : ℕ). corners_inside s (face_at s j) ≡ true) e here)
+      (cases_Bool (ltb k i))
+
+  -- what the box of a face tells of its corners
+  pub inside_of : (f : Face) (b : SweptBox) → swept_if_inside s f ≡ Some b → (corners_inside s f ≡ true) × (b ≡ swept_box s f)
+  inside_of f b e = go (corners_inside s f) refl e
+    where
+      go : (t : Bool) → corners_inside s f ≡ t → cond t (Some (swept_box s f)) None ≡ Some b → (corners_inside s f ≡ true) × (b ≡ swept_box s f)
+      go true p q = (p, sym (ap (λ o. unwrap_or o b) q))
+      go false p q = absurd (none-some b q)
+
+  pub outside_of : (f : Face) → swept_if_inside s f ≡ None → corners_inside s f ≡ false
+  outside_of f e = go (corners_inside s f) refl e
+    where
+      go : (t : Bool) → corners_inside s f ≡ t → cond t (Some (swept_box s f)) None ≡ None → corners_inside s f ≡ false
+      go true p q = absurd (none-some (swept_box s f) (sym q))
+      go false p q = p
+
+  -- which fault the lowest such face makes
+  pub told : (o : Option ℕ) → lowest_outside s ≡ o → option_map (λ i. notice 19 Search i 0) o ≡ first_fit (corner_checks s)
+  told o e = subst (λ (r : Option ℕ). option_map (λ i. notice 19 Search i 0) o ≡ first_fit (check (is_some r) 19 Search (unwrap_or r 0) 0 ∷ [])) (sym e) (go o)
+    where
+      go : (o : Option ℕ) → option_map (λ i. notice 19 Search i 0) o ≡ first_fit (check (is_some o) 19 Search (unwrap_or o 0) 0 ∷ [])
+      go None = refl
+      go (Some i) = refl

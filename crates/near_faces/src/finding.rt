@@ -23,6 +23,7 @@ use sheet::{Draft, FACE_LIMIT, Face, Point};
 ///
 /// Offered all to an inspection, these pairs cover the whole sheet: what shares no point and is on
 /// no list stays apart, near or far.
+#[tactic(auto, using(crate::proofs::Covering::covering))]
 pub fn find_near(
     draft: &Draft,
     points: &[Point],
@@ -32,14 +33,14 @@ pub fn find_near(
 ) -> Result<usize, SearchFault>
     ensures fault { fault_notice notice_of_search result
         ≡ first_fit (search_checks draft.now points.now faces.now (length nodes.old) (length pairs.old)) }
-    ensures count { let s = sheet_in draft.now points.now faces.now in
-        IfOk result (λ n. n ≡ length (near_pairs s)) }
-    ensures pairs { let s = sheet_in draft.now points.now faces.now in
-        pairs.new ≡ (if is_ok result then onto_front (near_pairs s) pairs.old else pairs.old) }
-    ensures nodes { let s = sheet_in draft.now points.now faces.now in
-        NodesAfter (swept_boxes s) result nodes.old nodes.new }
-    ensures near { let s = sheet_in draft.now points.now faces.now in
-        NearPairs (swept_boxes s) (near_pairs s) }
+    ensures count { let boxes = swept_boxes (sheet_in draft.now points.now faces.now) in
+        IfOk result (λ n. n ≡ length (near boxes)) }
+    ensures pairs { let boxes = swept_boxes (sheet_in draft.now points.now faces.now) in
+        pairs.new ≡ (if is_ok result then onto_front (near boxes) pairs.old else pairs.old) }
+    ensures nodes { let boxes = swept_boxes (sheet_in draft.now points.now faces.now) in
+        NodesAfter boxes result nodes.old nodes.new }
+    ensures near { let boxes = swept_boxes (sheet_in draft.now points.now faces.now) in
+        NearPairs boxes (near boxes) }
     ensures covers { let s = sheet_in draft.now points.now faces.now in
         Covers draft.now s (near_pairs s) }
 {
@@ -74,11 +75,7 @@ fn sweep(points: &[Point], faces: &[Face], boxes: &mut [SweptBox]) -> Result<(),
 
 /// Finds the pairs of boxes that meet.
 #[tactic(auto, using(crate::proofs::Listing::put_fits))]
-fn search(
-    boxes: &[SweptBox],
-    nodes: &mut [Node],
-    pairs: &mut [Pair],
-) -> Result<usize, SearchFault>
+fn search(boxes: &[SweptBox], nodes: &mut [Node], pairs: &mut [Pair]) -> Result<usize, SearchFault>
     requires { length boxes.now ≤ 4096 }
     ensures fault { fault_notice notice_of_search result
         ≡ first_fit (table_checks boxes.now (length nodes.old) (length pairs.old)) }
