@@ -1,0 +1,6 @@
+pub mod Near
+pub mod FileByFile
+pub mod Runs
+pub mod Searching
+pub mod Writes
+pub mod InMemory

@@ -1,0 +1,4 @@
+pub mod Memory
+pub mod Pairings
+pub mod Reading
+pub mod Works
