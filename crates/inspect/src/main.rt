@@ -1,7 +1,7 @@
 // inspect [FOLDER]: inspects the fold plan in a folder, a sheet, its step and the pairs of faces to look at.
 #![tactic(auto)]
 
-use plans::inspect_command;
+use inspecting::inspect_command;
 use std::process::ExitCode;
 
 fn main(rt: HostRuntime) -> ExitCode {

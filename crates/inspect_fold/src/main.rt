@@ -1,7 +1,7 @@
 // The gate's run of an inspection of a whole fold, the example: two hundred faces and all pairs of them that come near each other.
 #![tactic(auto)]
 
-use plans::inspect_command;
+use inspecting::inspect_command;
 use std::process::ExitCode;
 
 fn main(rt: HostRuntime) -> ExitCode {

@@ -1,7 +1,7 @@
 // The gate's run of an inspection with refused pairs among good ones, which are stored.
 #![tactic(auto)]
 
-use plans::inspect_command;
+use inspecting::inspect_command;
 use std::process::ExitCode;
 
 fn main(rt: HostRuntime) -> ExitCode {

@@ -1,12 +1,10 @@
 //! The files of a fold plan in a folder: read, inspected, and what comes of it printed and stored.
 #![tactic(auto)]
 
-mod command;
 mod paths;
 mod programs;
 mod runs;
 
-pub use command::inspect_command;
 pub use paths::Paths;
 pub use programs::inspect_folder;
 pub use runs::{inspect_on_disk, status};

@@ -1,0 +1,95 @@
+// An inspection of two frames by the system.
+ghost use Rattle.std.specs.Prelude.{◌≤◌};
+
+use files::{Disk, Failure, Machine, Site, tell};
+use frames::FrameFile;
+use std::alloc::AllocError;
+use std::io;
+use two_frames::{Accounted, FramesEnding, Tables, inspect_frames};
+
+/// One byte more than the longest text that is accepted.
+const TEXT: usize = 65_537;
+
+/// Bytes for what is printed. A run that prints more is made once more, with as much as it needs.
+const PAGE: usize = 262_144;
+
+/// Inspects the step between the frames at two paths: the exit status. What stops the run is told,
+/// and the frame that has a fault.
+pub(crate) fn inspect_files(rt: &HostRuntime, start: &str, end: &str) -> u8
+    ensures { result ≤ 1 }
+{
+    let path = |file: FrameFile| match file {
+        FrameFile::Start => start,
+        FrameFile::End => end,
+    };
+    match inspect_paths(rt, start, end) {
+        Ok(FramesEnding::Covered | FramesEnding::Refused(_)) => 0,
+        Ok(FramesEnding::Faulty(file)) => {
+            tell(rt, path(file), "it has a fault");
+            1
+        }
+        Ok(FramesEnding::Unsearched | FramesEnding::Different) => 1,
+        Err(failure) => {
+            let name = match failure.site {
+                Site::File(file) => path(file),
+                Site::Output => "standard output",
+                Site::Target | Site::Memory => "memory",
+            };
+            tell(rt, name, failure.reason);
+            1
+        }
+    }
+}
+
+/// Reads the frames, inspects the step between them and prints what comes of it.
+fn inspect_paths(
+    rt: &HostRuntime,
+    start: &str,
+    end: &str,
+) -> Result<FramesEnding, Failure<FrameFile>> {
+    let mut disk = Machine::new(*rt, None)?;
+    let mut first = zeros(rt, TEXT)?;
+    let mut second = zeros(rt, TEXT)?;
+    let first_len = disk.fill(FrameFile::Start, start, &mut first)?;
+    // a fault of the first comes before a second that cannot be read
+    let (second_len, unread) = match disk.fill(FrameFile::End, end, &mut second) {
+        Ok(len) => (len, None),
+        Err(failure) => (0, Some(failure)),
+    };
+    let (account, page) = account_of(rt, &first[..first_len], &second[..second_len])?;
+    if let Some(failure) = unread
+        && account.ending != FramesEnding::Faulty(FrameFile::Start)
+    {
+        return Err(failure);
+    }
+    disk.print(&page[..account.printed_len.min(page.len())])?;
+    disk.flush()?;
+    Ok(account.ending)
+}
+
+/// The account of two texts, and a page with all of it.
+fn account_of(
+    rt: &HostRuntime,
+    first: &[u8],
+    second: &[u8],
+) -> Result<(Accounted, Vec<u8>), Failure<FrameFile>> {
+    let mut tables = Tables::new(rt.alloc()).map_err(no_memory)?;
+    let mut page = zeros(rt, PAGE)?;
+    let mut account = inspect_frames(&mut tables, first, second, &mut page);
+    if account.printed_len > page.len() {
+        page = zeros(rt, account.printed_len)?;
+        account = inspect_frames(&mut tables, first, second, &mut page);
+    }
+    Ok((account, page))
+}
+
+fn zeros(rt: &HostRuntime, len: usize) -> Result<Vec<u8>, Failure<FrameFile>> {
+    vec![in rt.alloc(); 0; len].map_err(no_memory)
+}
+
+fn no_memory(e: AllocError) -> Failure<FrameFile> {
+    Failure {
+        site: Site::Memory,
+        reason: io::Error::from(e),
+    }
+}
