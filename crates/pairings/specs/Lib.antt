@@ -1,0 +1,2 @@
+pub mod PairPaths
+pub mod Runs

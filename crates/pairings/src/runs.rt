@@ -1,0 +1,19 @@
+// A whole run over a folder.
+ghost use Rattle.pairings.specs.Runs.{PairsFolder};
+
+use crate::paths::Paths;
+use files::{Disk, OnDisk};
+use pairing::{Tables, pair_plan};
+use printout::{Ending, PlanFile};
+
+/// Finds the pairs of the plan whose files are placed on a disk. Pairs that were stored are kept
+/// before the line that tells their number goes out.
+pub fn pair_on_disk<D: Disk<PlanFile>>(
+    tables: &mut Tables,
+    plan: &mut OnDisk<D, Paths>,
+) -> Result<Ending, D::Error>
+    ensures { PairsFolder D.does D.fails plan.old result plan.new }
+{
+    let work = pair_plan(tables, plan);
+    plan.end(work)
+}
