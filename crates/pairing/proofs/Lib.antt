@@ -1,4 +1,5 @@
 pub mod Near
+pub mod PairBytes
 pub mod FileByFile
 pub mod Runs
 pub mod Searching

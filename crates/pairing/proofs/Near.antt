@@ -1,26 +1,32 @@
 -- The search over tables that hold a plan, and what the stored pairs are for.
-use Rattle.std.proofs.Common.{◌∷◌, ◌++◌, ◌≡◌, Bool, false, List, length, take, None, Option, IfSome, IsFalse, ◌||◌, refl, sym, ap, ◌∙◌, arith, subst}
+use Rattle.std.proofs.Common.{nat_lt, Some, lit≤, ◌≤◌, ◌∷◌, ◌++◌, ◌≡◌, Bool, false, List, length, take, None, Option, IfSome, IsFalse, ◌||◌, refl, sym, ap, ◌∙◌, arith, subst}
 use Rattle.std.proofs.Math.Seq.{take-length}
 use Rattle.std.proofs.lemmas.Bool.{le-ltb}
+use Rattle.std.proofs.lemmas.List.{length-map}
+use Rattle.sheet.proofs.FirstFit.{no_fit}
+use Rattle.sheet.proofs.Sound.{sound}
+use Rattle.sheet.specs.Lines.{numbered}
+use Rattle.sheet.specs.Sheet.{point_limit, face_limit, text_limit, no_rows, room_in, lines_checks}
 use Rattle.sheet.specs.Checks.{first_fit, check}
 use Rattle.sheet.specs.declared.drafts.Draft.{Draft}
-use Rattle.sheet.specs.declared.notices.Layer.TheVariants.{Search}
+use Rattle.sheet.specs.declared.notices.Layer.TheVariants.{Search, Sheet as SheetLayer}
 use Rattle.sheet.specs.declared.notices.Notice.{Notice}
 use Rattle.sheet.specs.declared.rows.Point.{Point}
 use Rattle.sheet.specs.declared.rows.Face.{Face}
 use Rattle.step.proofs.LayAnswers.{length_with_ends}
 use Rattle.inspection.specs.Offers.{lacks_rows}
 use Rattle.inspection.specs.Sheets.{Sheet, sheet_of, sheet_in}
-use Rattle.near_faces.specs.Boxes.{swept_boxes}
+use Rattle.near_faces.specs.Boxes.{swept_box, swept_boxes}
 use Rattle.near_faces.specs.Covering.{Covers}
 use Rattle.near_faces.specs.Near.{near_pairs}
 use Rattle.near_faces.specs.Searches.{search_checks, corner_checks, table_checks}
 use Rattle.near_faces.proofs.Completing.{complete}
 use Rattle.near_faces.proofs.Covering.{covering}
-use Rattle.printout.specs.Plans.{Plan, draft, resting_points, moving_points, faces, sheet, fault}
+use Rattle.printout.specs.Plans.{Plan, draft, resting_points, moving_points, faces, sheet, fault, sheet_fault, step_fault, or_else}
 use Rattle.printout.specs.Progress.{HoldsPlan}
 use Rattle.pairing.specs.Pairings.{node_room, pair_room, search_fault, unless_faulty, paired, pairing, pairing_in}
 use Rattle.pairing.specs.Works.{Serves}
+use Rattle.pairing.proofs.PairBytes.{read_back}
 
 module _ (p : Plan) where
   -- the plan's own rows are a table of just the sheet
@@ -52,9 +58,29 @@ module _ (p : Plan) where
   covered : Covers (draft p) (sheet p) (near_pairs (sheet p))
   covered = subst (λ s. Covers (draft p) s (near_pairs s)) own_sheet (covering (draft p) (moving_points p) (faces p))
 
-  by_cases : (a b : Option Notice) → IfSome (unless_faulty a (unless_faulty b (paired (draft p).faces (near_pairs (sheet p))))).pairs_stored (Serves p)
-  by_cases None None = record { pairs = near_pairs (sheet p); stored = refl; near = complete (swept_boxes (sheet p)); covers = covered }
-  by_cases a b = tt
+  few_faces : sheet_fault p ≡ None → length (faces p) ≤ face_limit
+  few_faces good =
+      let long = check (nat_lt text_limit (length p.sheet)) 6 SheetLayer 0 0 in
+      let room = room_in point_limit face_limit in
+      let lines = lines_checks room no_rows (numbered p.sheet) in
+      (sound room (numbered p.sheet) (resting_points p) (faces p) (lit≤ tt) (lit≤ tt) (sym (no_fit long lines good).1) refl refl).face_count
+
+  sheet_first : (a b : Option Notice) → or_else a b ≡ None → a ≡ None
+  sheet_first None b h = refl
+  sheet_first (Some n) b h = h
+
+  by_cases : (a b : Option Notice) → fault p ≡ a → IfSome (unless_faulty a (unless_faulty b (paired (draft p).faces (near_pairs (sheet p))))).pairs_stored (Serves p)
+  by_cases None None is =
+      let boxes = swept_boxes (sheet p) in
+      let near = complete boxes in
+      let few = few_faces (sheet_first (sheet_fault p) (step_fault p) is) in
+      record {
+        pairs = near_pairs (sheet p);
+        read = read_back boxes (omega (arith, few, length-map (faces p) (swept_box (sheet p)))) (near_pairs (sheet p)) near.only;
+        near = near;
+        covers = covered;
+      }
+  by_cases a b is = tt
 
   pub serves : IfSome (pairing p.sheet p.step).pairs_stored (Serves p)
-  serves = by_cases (fault p) (search_fault p)
+  serves = by_cases (fault p) (search_fault p) refl

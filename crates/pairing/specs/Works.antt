@@ -1,5 +1,5 @@
 -- What the work of `near` comes to, whatever bytes the files have beyond those that came.
-use Rattle.std.specs.Prelude.{◌≡◌, ℕ, List, ◌++◌, IfSome, Result}
+use Rattle.std.specs.Prelude.{◌≡◌, ℕ, List, ◌++◌, map, IfSome, Result}
 use Rattle.hosts.specs.Events.{Event, Call, files_read, unread}
 use Rattle.hosts.specs.Works.{Worked, IsFront}
 use Rattle.hosts.specs.Writing.{BeganTo, writes}
@@ -8,17 +8,18 @@ use Rattle.near_faces.specs.Boxes.{swept_boxes}
 use Rattle.near_faces.specs.Covering.{Covers}
 use Rattle.near_faces.specs.Near.{NearPairs}
 use Rattle.printout.specs.Outcomes.{ReadsPlan}
+use Rattle.printout.specs.PairBytes.{offerings_in}
 use Rattle.printout.specs.Plans.{Plan, draft, sheet}
 use Rattle.printout.specs.declared.endings.Ending.{Ending}
 use Rattle.printout.specs.declared.plan_files.PlanFile.{PlanFile}
-use Rattle.pairing.specs.Pairings.{pairing, pairs_bytes, writes_of, needed}
+use Rattle.pairing.specs.Pairings.{pairing, offering_of, writes_of, needed}
 
 -- ---- what stored pairs are for
--- these bytes hold all near pairs of the plan's sheet and no others; offered all, they leave no touch of the
--- sheet unlisted
+-- these bytes hold all near pairs of the plan's sheet and no others, as `inspect` reads them; offered
+-- all, they leave no touch of the sheet unlisted
 pub record Serves (p : Plan) (bytes : List ℕ) : Type 0 where
   pub pairs : List Pair
-  pub stored : bytes ≡ pairs_bytes pairs
+  pub read : offerings_in bytes ≡ map offering_of pairs
   pub near : NearPairs (swept_boxes (sheet p)) pairs
   pub covers : Covers (draft p) (sheet p) pairs
 
