@@ -33,7 +33,7 @@ module _ (p : Plan) where
   count : length (moving_points p) ≡ (draft p).points
   count = length_with_ends (resting_points p) p.step
 
-  own_sheet : sheet_in (draft p) (moving_points p) (faces p) ≡ sheet p
+  pub own_sheet : sheet_in (draft p) (moving_points p) (faces p) ≡ sheet p
   own_sheet = λ i. sheet_of ((ap (λ n. take n (moving_points p)) (sym count) ∙ take-length (moving_points p)) i) (take-length (faces p) i)
 
   own_rows : lacks_rows (draft p) (moving_points p) (faces p) ≡ false
@@ -58,14 +58,14 @@ module _ (p : Plan) where
   covered : Covers (draft p) (sheet p) (near_pairs (sheet p))
   covered = subst (λ s. Covers (draft p) s (near_pairs s)) own_sheet (covering (draft p) (moving_points p) (faces p))
 
-  few_faces : sheet_fault p ≡ None → length (faces p) ≤ face_limit
+  pub few_faces : sheet_fault p ≡ None → length (faces p) ≤ face_limit
   few_faces good =
       let long = check (nat_lt text_limit (length p.sheet)) 6 SheetLayer 0 0 in
       let room = room_in point_limit face_limit in
       let lines = lines_checks room no_rows (numbered p.sheet) in
       (sound room (numbered p.sheet) (resting_points p) (faces p) (lit≤ tt) (lit≤ tt) (sym (no_fit long lines good).1) refl refl).face_count
 
-  sheet_first : (a b : Option Notice) → or_else a b ≡ None → a ≡ None
+  pub sheet_first : (a b : Option Notice) → or_else a b ≡ None → a ≡ None
   sheet_first None b h = refl
   sheet_first (Some n) b h = h
 

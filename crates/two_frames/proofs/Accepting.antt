@@ -1,5 +1,5 @@
 -- A walk that refuses no pair accepts each.
-use Rattle.std.proofs.Common.{◌≡◌, ℕ, ◌+◌, ◌≤◌, Bool, Some, None, Option, List, [], ◌∷◌, ◌++◌, length, All, Any, Contains, refl, subst, sym, ap, ◌∙◌, arith, append_assoc, append-nil, length-append}
+use Rattle.std.proofs.Common.{◌≡◌, ◌+◌, ◌≤◌, Bool, Some, None, Option, List, [], ◌∷◌, ◌++◌, length, All, Any, Contains, refl, subst, sym, ap, ◌∙◌, arith, append_assoc, append-nil, length-append}
 use Rattle.std.proofs.lemmas.List.Elements.{All-nil, All-cons, Contains-append_left, Contains-append_right}
 use Rattle.motion.specs.declared.shapes.Shape.{Shape}
 use Rattle.sheet.specs.declared.notices.Notice.{Notice}

@@ -1,11 +1,11 @@
 -- One text behind another on a page, and their lengths.
-use Rattle.std.proofs.Common.{◌≡◌, ℕ, ◌+◌, ◌-◌, ◌^◌, ◌≤◌, min, List, ◌++◌, length, take, drop, sym, ap, ap₂, ◌∙◌, arith, rules, length-append, length-take, length-drop}
+use Rattle.std.proofs.Common.{◌≡◌, ℕ, ◌+◌, ◌-◌, ◌^◌, ◌≤◌, min, List, ◌++◌, length, take, drop, ap, ap₂, ◌∙◌, arith, rules, length-append, length-take, length-drop}
 use Rattle.std.proofs.lemmas.List.{places, same_lists, take_rest, append-nil}
 use borrow.Rule.Slice.PartMut.{post_of}
 use Rattle.near_faces.proofs.Listing.{nothing_after}
 use Rattle.hosts.specs.Pages.{onto_page}
 
-length-onto_page : (a page : List ℕ) → length (onto_page a page) ≡ length page
+pub length-onto_page : (a page : List ℕ) → length (onto_page a page) ≡ length page
 length-onto_page a page = omega (arith, length-append (take (length page) a) (drop (length a) page), length-take (length page) a, length-drop (length a) page)
 
 pub page_behind : (a b page first : List ℕ) (n : ℕ) → n ≡ min (length a) (length page) → first ≡ onto_page a page → take n first ++ onto_page b (drop n first) ≡ onto_page (a ++ b) page

@@ -28,12 +28,7 @@ pub struct Accounted {
 ///
 /// Where no pair is refused, the claim is of the whole sheet: of every two different faces, near or
 /// far, what shares no point and is not listed stays apart for the whole step.
-pub fn inspect_frames(
-    tables: &mut Tables,
-    start: &[u8],
-    end: &[u8],
-    page: &mut [u8],
-) -> Accounted
+pub fn inspect_frames(tables: &mut Tables, start: &[u8], end: &[u8], page: &mut [u8]) -> Accounted
     ensures ending { result.ending ≡ (account (frames start.now end.now)).ending }
     ensures page { page.new ≡ onto_page (account (frames start.now end.now)).text page.old }
     ensures printed_len { result.printed_len
@@ -45,11 +40,12 @@ pub fn inspect_frames(
     match recorded.answer {
         Recording::Recorded => {
             let shown = line_len.min(page.len());
+            let step = &tables.step[..recorded.record_len];
             let rest = inspect_sheet(
                 &mut tables.pairing,
                 &mut tables.plan,
                 start,
-                &tables.step[..recorded.record_len],
+                step,
                 &mut tables.pairs,
                 &mut page[shown..],
             );

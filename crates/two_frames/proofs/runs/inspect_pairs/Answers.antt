@@ -1,5 +1,4 @@
-use Rattle.std.proofs.Common.{◌≡◌, ℕ, List, ◌^◌, ◌-◌, ◌≤◌, ◌++◌, length, take, drop, sym, ap, ◌∙◌, arith, rules}
-use Rattle.hosts.specs.Pages.{onto_page}
+use Rattle.std.proofs.Common.{ap, ◌∙◌, rules}
 use Rattle.printout.specs.Memory.{plan}
 use Rattle.printout.specs.Plans.{printout}
 use Rattle.two_frames.specs.Accounts.{last_line, ending_by, refused_count}
