@@ -6,8 +6,11 @@
 // sin 60 sin t high, and every other column is shifted by cos 60 / w along y. These four are fractions times square roots of
 // whole numbers, so whole numbers do to round them.
 
+#[path = "../second/boxes.rs"]
+#[allow(dead_code)] // of these four, only the near pairs and the writing of a record are needed
+mod boxes;
 #[path = "../second/faults.rs"]
-#[allow(dead_code)] // of these three, only the writing of a record is needed
+#[allow(dead_code)]
 mod faults;
 #[path = "../second/filters.rs"]
 #[allow(dead_code)]
@@ -138,46 +141,6 @@ fn text(points: &[Vector], fold: &str) -> String {
     text
 }
 
-/// The least and the greatest coordinates.
-type Box = (Vector, Vector);
-
-/// The box of a face, over start and end.
-fn swept_box(face: [usize; 3], points: &[Point]) -> Box {
-    let corners = face.map(|corner| points[corner]);
-    let (mut least, mut greatest) = (corners[0].start, corners[0].start);
-    for place in corners
-        .into_iter()
-        .flat_map(|point| [point.start, point.end])
-    {
-        for axis in 0..3 {
-            least[axis] = least[axis].min(place[axis]);
-            greatest[axis] = greatest[axis].max(place[axis]);
-        }
-    }
-    (least, greatest)
-}
-
-/// Whether two boxes overlap or touch on all axes.
-fn meet(one: &Box, other: &Box) -> bool {
-    (0..3).all(|axis| one.0[axis] <= other.1[axis] && other.0[axis] <= one.1[axis])
-}
-
-/// All pairs of different faces whose swept boxes meet, lower numbers first, as the bytes of a file of pairs.
-fn pairs(points: &[Point], faces: &[[usize; 3]]) -> Vec<u8> {
-    let swept = |&face| swept_box(face, points);
-    let boxes: Vec<Box> = faces.iter().map(swept).collect();
-    let mut bytes = Vec::new();
-    for i in 0..boxes.len() {
-        for j in i + 1..boxes.len() {
-            if meet(&boxes[i], &boxes[j]) {
-                bytes.extend((i as u16).to_le_bytes());
-                bytes.extend((j as u16).to_le_bytes());
-            }
-        }
-    }
-    bytes
-}
-
 fn main() {
     let Some(folder) = std::env::args_os().nth(1) else {
         eprintln!("usage: miura FOLDER");
@@ -195,7 +158,8 @@ fn main() {
         text(&ends, "half of the way: the next frame").as_bytes(),
     );
     write("step.bin", &record::write(&points));
-    write("pairs.bin", &pairs(&points, &faces()));
+    let pairs = boxes::near_pairs(&points, &faces()).expect("there are places for the pairs");
+    write("pairs.bin", &boxes::bytes_of(&pairs));
 }
 
 #[cfg(test)]
@@ -237,18 +201,5 @@ mod worked_cases {
         assert_eq!(faces().len(), 200);
         assert_eq!(faces()[..2], [[0, 1, 12], [0, 12, 11]]);
         assert_eq!(faces()[199], [108, 120, 119]);
-    }
-
-    #[test]
-    fn boxes_that_overlap_or_touch_make_a_pair() {
-        let moves = |start, end| Point { start, end };
-        let rests = |place| moves(place, place);
-        let mut points = vec![rests([0, 0, 0]), rests([2, 0, 0]), rests([0, 2, 0])];
-        points.extend([[1, 1, 1], [1, 2, 2], [3, 1, 1]].map(rests));
-        points.extend([[9, 9, 9], [8, 9, 9], [3, 0, 0]].map(rests));
-        let faces = [[0, 1, 2], [3, 4, 5], [6, 7, 8]];
-        assert_eq!(pairs(&points, &faces), [1, 0, 2, 0]);
-        points[4] = moves([1, 2, 2], [1, 2, 0]);
-        assert_eq!(pairs(&points, &faces), [0, 0, 1, 0, 1, 0, 2, 0]);
     }
 }

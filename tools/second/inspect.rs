@@ -1,44 +1,20 @@
-// Written from docs/RULES.md alone: the program `inspect`, and with --questions `questions`.
+// Written from docs/RULES.md alone: the program `inspect`, for a folder and for two frames, and with --questions `questions`.
 
+mod boxes;
 mod faults;
+mod files;
 mod filters;
+mod frames;
 mod inspection;
-#[allow(dead_code)] // inspecting writes no record
 mod record;
 mod sheet;
 
-use faults::Fault;
+use files::Stop;
+use filters::Point;
 use inspection::Inspection;
-use std::fs::File;
-use std::io::Read;
 use std::path::{Path, PathBuf};
-use std::process::exit;
 
 const DEPTH: u32 = 2;
-const MOST_OF_SHEET: u64 = 65537;
-const MOST_OF_STEP: u64 = 14337;
-
-/// What ends a run before its report.
-enum Stop {
-    Fault(Fault),
-    Unreadable(String),
-}
-
-impl From<Fault> for Stop {
-    fn from(fault: Fault) -> Stop {
-        Stop::Fault(fault)
-    }
-}
-
-/// The bytes of a file of the folder, at most so many.
-fn read(folder: &Path, name: &str, most: u64) -> Result<Vec<u8>, Stop> {
-    let path = folder.join(name);
-    let mut bytes = Vec::new();
-    File::open(&path)
-        .and_then(|file| file.take(most).read_to_end(&mut bytes))
-        .map_err(|reason| Stop::Unreadable(format!("{}: {reason}", path.display())))?;
-    Ok(bytes)
-}
 
 /// What is known after all pairs.
 struct Findings {
@@ -66,13 +42,9 @@ fn offer_pairs(inspection: &mut Inspection, pairs: &[u8]) -> (String, Vec<u8>) {
     (lines, refused)
 }
 
-/// Each file is read and used before the next one.
-fn inspect(folder: &Path) -> Result<Findings, Stop> {
-    let sheet = sheet::read(&read(folder, "sheet.obj", MOST_OF_SHEET)?)?;
-    let points = record::lay(&read(folder, "step.bin", MOST_OF_STEP)?, &sheet.points)?;
-    let mut inspection = Inspection::open(points, sheet.faces, DEPTH)?;
-    let pairs = read(folder, "pairs.bin", u64::MAX)?;
-    let (refusals, refused) = offer_pairs(&mut inspection, &pairs);
+fn inspect(points: Vec<Point>, faces: Vec<[usize; 3]>, pairs: &[u8]) -> Result<Findings, Stop> {
+    let mut inspection = Inspection::open(points, faces, DEPTH)?;
+    let (refusals, refused) = offer_pairs(&mut inspection, pairs);
     let report = inspection.report();
     let answers = inspection.answers();
     Ok(Findings {
@@ -83,36 +55,85 @@ fn inspect(folder: &Path) -> Result<Findings, Stop> {
     })
 }
 
-fn main() {
-    let mut arguments: Vec<_> = std::env::args_os().skip(1).collect();
-    let mut target = None;
-    if arguments.len() > 1 && arguments[0] == "--refused" {
-        target = Some(PathBuf::from(arguments.remove(1)));
-        arguments.remove(0);
-    }
-    let asks = arguments.first().is_some_and(|word| word == "--questions");
-    if asks {
-        arguments.remove(0);
-    }
-    if arguments.len() > 1 {
-        eprintln!("usage: inspect-second [--refused FILE] [--questions] [FOLDER]");
-        exit(1);
-    }
-    let folder = arguments.first().map_or(PathBuf::from("."), PathBuf::from);
-    match inspect(&folder) {
-        Ok(findings) => {
-            // a refused pair is passed over: the status is 0
-            let told = if asks { findings.answers } else { findings.report };
-            print!("{}{told}", findings.refusals);
-            if let Some(path) = target {
-                std::fs::write(path, findings.refused).expect("the refused pairs can be stored");
-            }
-            exit(0);
+/// Each file is read and used before the next one.
+fn inspect_folder(folder: &Path) -> Result<Findings, Stop> {
+    let (points, faces) = files::read_sheet_and_step(folder)?;
+    let pairs = files::read(&folder.join("pairs.bin"), u64::MAX)?;
+    inspect(points, faces, &pairs)
+}
+
+/// Does what `record`, `near` and an inspection of their files do, and tells whether a pair was refused.
+fn inspect_frames(start: &Path, end: &Path, printed: &mut String) -> Result<(), Stop> {
+    let (sheet, points) = frames::read(start, end)?;
+    let step = record::write(&points);
+    *printed += &frames::line(&points, &step);
+    let points = record::lay(&step, &sheet.points)?;
+    let pairs = boxes::near_pairs(&points, &sheet.faces)?;
+    *printed += &boxes::line(sheet.faces.len(), pairs.len());
+    let findings = inspect(points, sheet.faces, &boxes::bytes_of(&pairs))?;
+    *printed += &format!("{}{}", findings.refusals, findings.report);
+    *printed += &match findings.refused.len() / 4 {
+        0 => "covered all pairs\n".to_string(),
+        count => format!("refused {count} pairs\n"),
+    };
+    Ok(())
+}
+
+/// The words of a command line.
+#[derive(Default)]
+struct Words {
+    target: Option<PathBuf>,
+    asks: bool,
+    paths: Vec<PathBuf>,
+}
+
+fn words() -> Words {
+    let mut words = Words::default();
+    let mut left = std::env::args_os().skip(1);
+    while let Some(word) = left.next() {
+        if word == "--refused" {
+            words.target = left.next().map(PathBuf::from);
+        } else if word == "--questions" {
+            words.asks = true;
+        } else {
+            words.paths.push(PathBuf::from(word));
         }
-        Err(Stop::Fault(fault)) => println!("{fault}"),
-        Err(Stop::Unreadable(reason)) => eprintln!("{reason}"),
     }
-    exit(1);
+    words
+}
+
+/// A refused pair is passed over: the run still ends well.
+fn run_folder(folder: &Path, words: &Words) -> Result<(), Stop> {
+    let findings = inspect_folder(folder)?;
+    let told = match words.asks {
+        true => findings.answers,
+        false => findings.report,
+    };
+    print!("{}{told}", findings.refusals);
+    if let Some(path) = &words.target {
+        std::fs::write(path, findings.refused).expect("the refused pairs can be stored");
+    }
+    Ok(())
+}
+
+fn run_frames(start: &Path, end: &Path) -> Result<(), Stop> {
+    let mut printed = String::new();
+    let outcome = inspect_frames(start, end, &mut printed);
+    print!("{printed}");
+    outcome
+}
+
+fn main() {
+    let words = words();
+    files::end(match &words.paths[..] {
+        [] => run_folder(Path::new("."), &words),
+        [folder] => run_folder(folder, &words),
+        [start, end] if words.target.is_none() && !words.asks => run_frames(start, end),
+        _ => Err(Stop {
+            told: "usage: inspect-second [--refused FILE] [--questions] [FOLDER]\n".to_string(),
+            ..Stop::default()
+        }),
+    });
 }
 
 #[cfg(test)]
@@ -128,25 +149,28 @@ mod worked_cases {
 
     /// What is printed for a folder of these files, and whether all went well.
     fn run(name: &str, sheet: &[u8], step: &[u8], pairs: &[u8]) -> (String, bool) {
-        let folder = std::env::temp_dir().join(format!("second-{name}-{}", std::process::id()));
-        std::fs::create_dir_all(&folder).unwrap();
-        for (file, bytes) in [
-            ("sheet.obj", sheet),
-            ("step.bin", step),
-            ("pairs.bin", pairs),
-        ] {
-            std::fs::write(folder.join(file), bytes).unwrap();
-        }
-        let outcome = inspect(&folder);
+        let plan = [("sheet.obj", sheet), ("step.bin", step), ("pairs.bin", pairs)];
+        let folder = files::trial_folder(name, &plan);
+        let outcome = inspect_folder(&folder);
         std::fs::remove_dir_all(&folder).unwrap();
         match outcome {
             Ok(found) => {
                 let printed = format!("{}{}", found.refusals, found.report);
                 (printed, found.refused.is_empty())
             }
-            Err(Stop::Fault(fault)) => (format!("{fault}\n"), false),
-            Err(Stop::Unreadable(_)) => (String::new(), false),
+            Err(stop) => (stop.printed, false),
         }
+    }
+
+    /// What is printed for two frames, and what is told on standard error, without the folder.
+    fn run_two(name: &str, frames: &[(&str, &[u8])]) -> (String, String) {
+        let folder = files::trial_folder(name, frames);
+        let mut printed = String::new();
+        let [start, end] = ["start.obj", "end.obj"].map(|frame| folder.join(frame));
+        let stop = inspect_frames(&start, &end, &mut printed).err().unwrap_or_default();
+        std::fs::remove_dir_all(&folder).unwrap();
+        let told = stop.told.replace(&format!("{}/", folder.display()), "");
+        (printed + &stop.printed, told)
     }
 
     #[test]
@@ -184,5 +208,61 @@ mod worked_cases {
         let counts = "kept 0 struck 0 shared 0 repeated 0";
         assert_eq!(printed, format!("VF {counts}\nEE {counts}\n"));
         assert!(well);
+    }
+
+    #[test]
+    fn the_worked_frames() {
+        let end = b"v 0 0 0\nv 4 0 0\nv 0 4 0\nv 1 1 -1\nv 1 1 9\nv 2 1 9\nf 1 2 3\nf -3 -2 -1\n";
+        let (printed, told) = run_two("two", &[("start.obj", SHEET), ("end.obj", end)]);
+        let before = "step 6 points, 1 moved, 8 bytes\nnear 2 faces, 1 pairs\n";
+        assert_eq!(printed, format!("{before}{REPORT}covered all pairs\n"));
+        assert_eq!(told, "");
+    }
+
+    #[test]
+    fn frames_of_nothing_are_covered() {
+        let (printed, _) = run_two("nothing", &[("start.obj", b""), ("end.obj", b"#")]);
+        let before = "step 0 points, 0 moved, 0 bytes\nnear 0 faces, 0 pairs\n";
+        let counts = "kept 0 struck 0 shared 0 repeated 0";
+        assert_eq!(printed, format!("{before}VF {counts}\nEE {counts}\ncovered all pairs\n"));
+    }
+
+    #[test]
+    fn refused_pairs_are_counted() {
+        // twelve faces in one place are 66 pairs; two lists of 512 take 9 EE entries of each of 56, and 6 VF entries
+        let mut text = "v 0 0 0\n".repeat(36);
+        for i in 0..12 {
+            text += &format!("f {} {} {}\n", 3 * i + 1, 3 * i + 2, 3 * i + 3);
+        }
+        let frame = text.as_bytes();
+        let (printed, _) = run_two("full", &[("start.obj", frame), ("end.obj", frame)]);
+        let lines: Vec<&str> = printed.lines().collect();
+        assert_eq!(lines[..2], ["step 36 points, 0 moved, 36 bytes", "near 12 faces, 66 pairs"]);
+        assert_eq!(lines[2..12], ["fault 21 offer 0 0"; 10]);
+        assert_eq!(lines[12], "VF 0 1 0 3");
+        assert!(lines.contains(&"VF kept 336 struck 0 shared 0 repeated 0"));
+        assert!(lines.contains(&"EE kept 504 struck 0 shared 0 repeated 0"));
+        assert_eq!(lines.last(), Some(&"refused 10 pairs"));
+    }
+
+    #[test]
+    fn what_ends_a_run_of_two_frames() {
+        let (printed, told) = run_two("fault", &[("start.obj", b"w")]);
+        assert_eq!(printed, "fault 2 line 1 0\n");
+        assert_eq!(told, "start.obj: it has a fault\n");
+        let (printed, told) = run_two("late", &[("start.obj", SHEET), ("end.obj", b"v 1 2")]);
+        assert_eq!(printed, "fault 1 field 1 3\n");
+        assert_eq!(told, "end.obj: it has a fault\n");
+        let (printed, told) = run_two("differ", &[("start.obj", SHEET), ("end.obj", b"")]);
+        assert_eq!(printed, "the frames have 6 and 0 points\n");
+        assert_eq!(told, "");
+        let (printed, told) = run_two("missing", &[("start.obj", SHEET)]);
+        assert_eq!(printed, "");
+        assert!(told.starts_with("end.obj: "));
+        let crowd = ["v 0 0 0\nv 1 0 0\nv 0 1 0\n", &"f 1 2 3\n".repeat(1415)].concat();
+        let crowd = crowd.as_bytes();
+        let (printed, told) = run_two("crowd", &[("start.obj", crowd), ("end.obj", crowd)]);
+        assert_eq!(printed, "step 3 points, 0 moved, 3 bytes\nfault 25 search 0 0\n");
+        assert_eq!(told, "");
     }
 }

@@ -68,7 +68,7 @@ fn make_place(dice: &mut Dice, reach: Vector) -> Vector {
     })
 }
 
-fn make_point(dice: &mut Dice, reach: Vector) -> Point {
+pub fn make_point(dice: &mut Dice, reach: Vector) -> Point {
     let start = make_place(dice, reach);
     let [x, y, z] = start;
     let wanted = match dice.below(6) {
@@ -109,7 +109,7 @@ fn make_text(dice: &mut Dice, points: &[Point], faces: usize, copies: bool) -> V
     text
 }
 
-fn make_skipped_line(dice: &mut Dice) -> Vec<u8> {
+pub fn make_skipped_line(dice: &mut Dice) -> Vec<u8> {
     let mut line = Vec::new();
     if dice.one_in(2) {
         let length = dice.below(9);
@@ -122,7 +122,7 @@ fn make_skipped_line(dice: &mut Dice) -> Vec<u8> {
 }
 
 /// Three different corners, of the points above.
-fn make_corners(dice: &mut Dice, above: usize) -> Vec<usize> {
+pub fn make_corners(dice: &mut Dice, above: usize) -> Vec<usize> {
     let mut corners = Vec::new();
     while corners.len() < 3 {
         let corner = dice.below(above);
@@ -134,7 +134,7 @@ fn make_corners(dice: &mut Dice, above: usize) -> Vec<usize> {
 }
 
 /// The line of a face. Its numbers count from the front, or back, or some of them back.
-fn face_line(dice: &mut Dice, corners: &[usize], above: usize) -> String {
+pub fn face_line(dice: &mut Dice, corners: &[usize], above: usize) -> String {
     let way = dice.below(3);
     let mut line = "f".to_string();
     for &corner in corners {
@@ -150,7 +150,7 @@ fn face_line(dice: &mut Dice, corners: &[usize], above: usize) -> String {
 }
 
 /// A number's field, at times with a needless zero or minus.
-fn told(dice: &mut Dice, number: i128) -> String {
+pub fn told(dice: &mut Dice, number: i128) -> String {
     let sign = if number < 0 { "-" } else { "" };
     match dice.below(20) {
         0 => format!("{sign}{:05}", number.abs()),
