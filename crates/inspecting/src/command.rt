@@ -6,7 +6,7 @@ use commands::{About, Given, given};
 use files::tell;
 use plans::inspect_folder;
 
-const USAGE: &str = "inspect [FOLDER] or inspect START.obj END.obj";
+const USAGE: &str = "inspect START.obj END.obj, or inspect [FOLDER]";
 
 const HELP: &str = "\
 usage: inspect START.obj END.obj

@@ -18,26 +18,28 @@ const PAGE: usize = 262_144;
 pub(crate) fn inspect_files(rt: &HostRuntime, start: &str, end: &str) -> u8
     ensures { result ≤ 1 }
 {
-    let path = |file: FrameFile| match file {
-        FrameFile::Start => start,
-        FrameFile::End => end,
-    };
     match inspect_paths(rt, start, end) {
         Ok(FramesEnding::Covered | FramesEnding::Refused(_)) => 0,
         Ok(FramesEnding::Faulty(file)) => {
-            tell(rt, path(file), "it has a fault");
+            tell(rt, name_of(Site::File(file), start, end), "it has a fault");
             1
         }
         Ok(FramesEnding::Unsearched | FramesEnding::Different) => 1,
         Err(failure) => {
-            let name = match failure.site {
-                Site::File(file) => path(file),
-                Site::Output => "standard output",
-                Site::Target | Site::Memory => "memory",
-            };
-            tell(rt, name, failure.reason);
+            tell(rt, name_of(failure.site, start, end), failure.reason);
             1
         }
+    }
+}
+
+/// By which name a failure is told.
+fn name_of<'a>(site: Site<FrameFile>, start: &'a str, end: &'a str) -> &'a str {
+    match site {
+        Site::File(FrameFile::Start) => start,
+        Site::File(FrameFile::End) => end,
+        Site::Output => "standard output",
+        // nothing is stored
+        Site::Target | Site::Memory => "memory",
     }
 }
 
@@ -48,39 +50,45 @@ fn inspect_paths(
     end: &str,
 ) -> Result<FramesEnding, Failure<FrameFile>> {
     let mut disk = Machine::new(*rt, None)?;
+    let mut tables = Tables::new(rt.alloc()).map_err(no_memory)?;
     let mut first = zeros(rt, TEXT)?;
     let mut second = zeros(rt, TEXT)?;
     let first_len = disk.fill(FrameFile::Start, start, &mut first)?;
-    // a fault of the first comes before a second that cannot be read
-    let (second_len, unread) = match disk.fill(FrameFile::End, end, &mut second) {
-        Ok(len) => (len, None),
-        Err(failure) => (0, Some(failure)),
-    };
-    let (account, page) = account_of(rt, &first[..first_len], &second[..second_len])?;
-    if let Some(failure) = unread
-        && account.ending != FramesEnding::Faulty(FrameFile::Start)
-    {
-        return Err(failure);
+    let first = &first[..first_len];
+    // a fault of the first needs no second
+    let (account, page) = account_of(rt, &mut tables, first, b"")?;
+    if account.ending == FramesEnding::Faulty(FrameFile::Start) {
+        return print_account(&mut disk, account, &page);
     }
-    disk.print(&page[..account.printed_len.min(page.len())])?;
-    disk.flush()?;
-    Ok(account.ending)
+    let second_len = disk.fill(FrameFile::End, end, &mut second)?;
+    let (account, page) = account_of(rt, &mut tables, first, &second[..second_len])?;
+    print_account(&mut disk, account, &page)
 }
 
 /// The account of two texts, and a page with all of it.
 fn account_of(
     rt: &HostRuntime,
+    tables: &mut Tables,
     first: &[u8],
     second: &[u8],
 ) -> Result<(Accounted, Vec<u8>), Failure<FrameFile>> {
-    let mut tables = Tables::new(rt.alloc()).map_err(no_memory)?;
     let mut page = zeros(rt, PAGE)?;
-    let mut account = inspect_frames(&mut tables, first, second, &mut page);
+    let mut account = inspect_frames(tables, first, second, &mut page);
     if account.printed_len > page.len() {
         page = zeros(rt, account.printed_len)?;
-        account = inspect_frames(&mut tables, first, second, &mut page);
+        account = inspect_frames(tables, first, second, &mut page);
     }
     Ok((account, page))
+}
+
+fn print_account(
+    disk: &mut Machine<FrameFile>,
+    account: Accounted,
+    page: &[u8],
+) -> Result<FramesEnding, Failure<FrameFile>> {
+    disk.print(&page[..account.printed_len.min(page.len())])?;
+    disk.flush()?;
+    Ok(account.ending)
 }
 
 fn zeros(rt: &HostRuntime, len: usize) -> Result<Vec<u8>, Failure<FrameFile>> {
