@@ -18,7 +18,7 @@ It prints
   near N faces, N pairs                how many faces the sheet has, and how many near pairs, which are stored
   fault NUMBER LAYER PLACE PLACE       the sheet, its step or the search has a fault, and nothing is stored
 docs/RULES.md explains the faults by their numbers.
-Where all of these pairs are inspected and none is refused, every two faces of the sheet are accounted for, near or far.
+Where `inspect` refuses none of these pairs, what it says holds of every two faces of the sheet, near or far.
 
 A sheet has at most 2,048 points, 4,096 faces and 65,536 bytes of text, with coordinates from -4096 to 4096.
 There are places for a million pairs, since no inspection accepts more (fault 25).

@@ -9,7 +9,7 @@ use Rattle.pairing.specs.Works.{FindsPairs}
 use Rattle.pairings.specs.declared.paths.Paths.{Paths}
 use Rattle.pairings.specs.PairPaths.{path_of, pairs_path, lasts}
 
-abbrev pub PairsFolder : {D E : Type 0} → (D → Deed PlanFile → D → Type 0)
+unfoldable pub PairsFolder : {D E : Type 0} → (D → Deed PlanFile → D → Type 0)
     → (D → Task PlanFile → E → D → Type 0) → OnDisk D Paths → Result Ending E → OnDisk D Paths → Type 0
 PairsFolder does fails s r t =
     Runs does fails lasts

@@ -8,6 +8,7 @@ use printout::{Ending, PlanFile};
 
 /// Finds the pairs of the plan whose files are placed on a disk. Pairs that were stored are kept
 /// before the line that tells their number goes out.
+#[tactic(auto, using(crate::proofs::OnDisk::ended))]
 pub fn pair_on_disk<D: Disk<PlanFile>>(
     tables: &mut Tables,
     plan: &mut OnDisk<D, Paths>,
