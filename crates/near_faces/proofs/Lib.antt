@@ -2,6 +2,8 @@ pub mod Sweeping
 pub mod Meeting
 pub mod Halving
 pub mod Listing
+pub mod Rows
+pub mod Marking
 pub mod Completing
 pub mod FarApart
 pub mod Covering

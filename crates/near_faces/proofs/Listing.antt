@@ -1,5 +1,5 @@
 -- What is listed of a run in two halves, and of a run that is passed over.
-use Rattle.std.proofs.Common.{◌≡◌, ℕ, zero, suc, ◌+◌, ◌-◌, ◌<◌, ◌≤◌, min, Bool, true, false, ◌&&◌, cond, ltb, List, [], ◌∷◌, ◌++◌, length, get_or, take, drop, refl, sym, ap, ◌∙◌, subst, arith, append_assoc, append-nil, add-zero, take-append-drop, length-take-le, length-drop, le-ltb, lt-ltb}
+use Rattle.std.proofs.Common.{◌≡◌, ℕ, zero, suc, ◌+◌, ◌-◌, ◌<◌, ◌≤◌, min, Bool, true, false, ◌&&◌, cond, ltb, List, [], ◌∷◌, ◌++◌, length, get_or, take, drop, refl, sym, ap, ◌∙◌, subst, arith, append_assoc, append-nil, add-zero, take-append-drop, length-take-le, length-drop, le-ltb}
 use Rattle.std.proofs.lemmas.Bool.{true≢false, false_from_ne_true, and_left, and_right}
 use Rattle.std.proofs.lemmas.List.{drop_all, take_more}
 use borrow.Rule.Slice.PartMut.{post_of}
@@ -10,7 +10,7 @@ use Rattle.near_faces.specs.Near.{pair, near_to, near_from}
 use Rattle.near_faces.specs.Listing.{put}
 use Rattle.near_faces.proofs.Meeting.{meets_left, meets_right}
 
-cond-append : {A : Type 0} (t : Bool) (x : A) (xs ys zs : List A) → zs ≡ xs ++ ys → cond t (x ∷ zs) zs ≡ cond t (x ∷ xs) xs ++ ys
+pub cond-append : {A : Type 0} (t : Bool) (x : A) (xs ys zs : List A) → zs ≡ xs ++ ys → cond t (x ∷ zs) zs ≡ cond t (x ∷ xs) xs ++ ys
 cond-append true x xs ys zs e = ap (λ l. x ∷ l) e
 cond-append false x xs ys zs e = e
 
@@ -42,16 +42,6 @@ none_met i b f (c ∷ d ∷ cs) h =
     let rest = around (d ∷ cs) in
     cond-none (ltb i f && meets b c) (pair i f) (near_to i b (f + 1) (d ∷ cs)) (and_right (ltb i f) (meets b c) (not_met b c _ (meets_left b c rest) h))
     (none_met i b (f + 1) (d ∷ cs) (not_met b rest _ (meets_right b c rest) h))
-
--- one face
-pub one_met : (i : ℕ) (b : SweptBox) (f : ℕ) (c : SweptBox) → i < f → meets b c ≡ true → near_to i b f (c ∷ []) ≡ pair i f ∷ []
-one_met i b f c h e = ap (λ t. cond (t && meets b c) (pair i f ∷ []) []) (lt-ltb i f h) ∙ ap (λ t. cond t (pair i f ∷ []) []) e
-
--- a run of one face
-pub one_met_run : (i : ℕ) (b : SweptBox) (f : ℕ) (run : List SweptBox) → length run ≡ 1 → i < f → meets b (around run) ≡ true → near_to i b f run ≡ pair i f ∷ []
-one_met_run i b f [] one h e = absurd (omega arith)
-one_met_run i b f (c ∷ []) one h e = one_met i b f c h e
-one_met_run i b f (c ∷ d ∷ cs) one h e = absurd (omega arith)
 
 -- a run in two halves
 pub in_halves : (i : ℕ) (b : SweptBox) (f h : ℕ) (run : List SweptBox) → h ≤ length run → near_to i b f run ≡ near_to i b f (take h run) ++ near_to i b (f + h) (drop h run)

@@ -1,5 +1,5 @@
 -- A face's box from those of its corners, and the boxes of the faces one after another.
-use Rattle.std.proofs.Common.{◌≡◌, ◌⊎◌, ℕ, zero, suc, ◌+◌, ◌<◌, ◌≤◌, Bool, true, false, not, cond, ltb, ℤ, List, [], ◌∷◌, ◌++◌, length, map, get_or, set, take, drop, Some, None, Option, refl, subst, inl, inr, ⊎_elim, sym, ap, ◌∙◌, arith, lt-ltb, le-ltb, ltb-true, ltb-false}
+use Rattle.std.proofs.Common.{◌≡◌, ℕ, zero, suc, ◌+◌, ◌<◌, ◌≤◌, Bool, true, false, not, cond, ltb, ℤ, List, [], ◌∷◌, ◌++◌, length, map, get_or, set, take, drop, Some, None, Option, refl, subst, ⊎_elim, sym, ap, ◌∙◌, arith, lt-ltb, le-ltb, ltb-true, ltb-false}
 use Rattle.std.proofs.lemmas.Option.{none-some}
 use native.Mathlib.Numerals.{unary_clauses}
 use Rattle.std.proofs.Math.ListN.{get_or-map}
@@ -7,11 +7,10 @@ use Rattle.std.proofs.lemmas.Bool.{cases_Bool, not_from_false}
 use Rattle.std.proofs.lemmas.Int.{ints, clamps}
 use Rattle.std.proofs.lemmas.List.Sums.{position_or_len_is}
 use Rattle.std.specs.Int.{int_min, int_max}
-use Rattle.std.specs.List.{position}
 use Rattle.sheet.specs.declared.rows.Face.{Face}
 use Rattle.sheet.specs.declared.rows.Point.{Point}
 use Rattle.motion.specs.declared.shapes.Moving.{Moving}
-use Rattle.inspection.specs.Sheets.{Sheet, moving_of, nowhere, sheet_of, point_at, face_at, no_face}
+use Rattle.inspection.specs.Sheets.{Sheet, moving_of, nowhere, sheet_of, face_at, no_face}
 use Rattle.inspection.specs.Tests.{corners_inside}
 use Rattle.near_faces.specs.declared.boxes.SweptBox.{SweptBox}
 use Rattle.near_faces.specs.Boxes.{joined, swept_by, box_around, swept_box, swept_if_inside}

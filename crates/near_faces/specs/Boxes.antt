@@ -1,5 +1,5 @@
 -- What faces sweep over: boxes with sides along the axes.
-use Rattle.std.specs.Prelude.{ℤ, pos, Bool, ◌&&◌, List, [], ◌∷◌, map, if◌then◌else◌, Some, None, Option, int_le}
+use Rattle.std.specs.Prelude.{ℤ, Bool, ◌&&◌, List, [], ◌∷◌, map, if◌then◌else◌, Some, None, Option, int_le}
 use Rattle.std.specs.Int.{int_min, int_max}
 use Rattle.sheet.specs.declared.rows.Coords.{Coords}
 use Rattle.sheet.specs.declared.rows.Face.{Face}

@@ -55,7 +55,7 @@ impl SweptBox {
 }
 
 /// Whether no coordinate is greater than the other's on that axis.
-fn is_at_most(a: Coords, b: Coords) -> bool
+pub(crate) fn is_at_most(a: Coords, b: Coords) -> bool
     ensures { result ≡ at_most a b }
 {
     (a.x <= b.x) & (a.y <= b.y) & (a.z <= b.z)

@@ -12,6 +12,7 @@ use crate::boxes::SweptBox;
 use crate::faults::SearchFault;
 use crate::nodes::{Node, build};
 use crate::pairs::{Pair, list_all};
+use crate::sides::Sides;
 use sheet::{Draft, FACE_LIMIT, Face, Point};
 
 /// Finds all pairs of different faces whose swept boxes overlap or touch on all three axes: writes
@@ -93,9 +94,10 @@ fn search(boxes: &[SweptBox], nodes: &mut [Node], pairs: &mut [Pair]) -> Result<
     }
     build(boxes, 0, &mut nodes[..places]);
     let tree = &nodes[..places];
-    let count = list_all(tree, boxes, &mut []);
+    let sides = Sides::of(boxes);
+    let count = list_all(tree, &sides, boxes.len(), &mut []);
     if count > pairs.len() {
         return Err(SearchFault::TooManyPairs);
     }
-    Ok(list_all(tree, boxes, pairs))
+    Ok(list_all(tree, &sides, boxes.len(), pairs))
 }

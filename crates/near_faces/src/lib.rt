@@ -6,6 +6,7 @@ mod faults;
 mod finding;
 mod nodes;
 mod pairs;
+mod sides;
 
 pub use boxes::SweptBox;
 pub use faults::SearchFault;

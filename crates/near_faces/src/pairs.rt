@@ -1,11 +1,20 @@
 // All pairs of faces whose boxes meet.
-ghost use Rattle.std.specs.Prelude.{◌≡◌, ◌+◌, ◌≤◌, [], ◌∷◌, length};
+ghost use Rattle.std.specs.Prelude.{◌≡◌, ◌+◌, ◌<◌, ◌≤◌, length, min};
+ghost use Rattle.std.specs.List.{list_any};
 ghost use Rattle.near_faces.specs.Trees.{IsTree};
-ghost use Rattle.near_faces.specs.Near.{pair, near_to, near};
-ghost use Rattle.near_faces.specs.Listing.{put};
+ghost use Rattle.near_faces.specs.Near.{near_to, near};
+ghost use Rattle.near_faces.specs.Listing.{marked, put};
+ghost use Rattle.near_faces.specs.Sides.{boxes_in};
 
 use crate::boxes::SweptBox;
 use crate::nodes::Node;
+use crate::sides::Sides;
+
+/// The boxes of a run of up to so many faces are all tested, in one loop.
+const RUN: usize = 512;
+
+/// Marks are passed over in strides of so many where none is set.
+const STRIDE: usize = 16;
 
 /// Two different faces, the lower number first.
 #[derive(Clone, Copy, Debug, Default, PartialEq, Eq)]
@@ -15,16 +24,24 @@ pub struct Pair {
 }
 
 /// Writes as many of all pairs as there is room for, and answers how many there are.
-pub(crate) fn list_all(tree: &[Node], boxes: &[SweptBox], pairs: &mut [Pair]) -> usize
-    requires faces { length boxes.now ≤ 4096 }
-    requires tree { IsTree 0 boxes.now tree.now }
-    ensures count { result ≡ length (near boxes.now) }
-    ensures pairs { pairs.new ≡ put (near boxes.now) pairs.old }
+pub(crate) fn list_all(tree: &[Node], sides: &Sides, faces: usize, pairs: &mut [Pair]) -> usize
+    requires faces { faces ≤ 4096 }
+    requires tree { IsTree 0 (boxes_in sides.now 0 faces) tree.now }
+    ensures count { result ≡ length (near (boxes_in sides.now 0 faces)) }
+    ensures pairs { pairs.new ≡ put (near (boxes_in sides.now 0 faces)) pairs.old }
 {
     let mut count = 0;
-    for i in 0..boxes.len() {
+    for i in 0..faces {
         let room = pairs.len().min(count);
-        count += list_one(tree, boxes, 0, i as u16, boxes[i], &mut pairs[room..]);
+        count += list_one(
+            tree,
+            sides,
+            0,
+            faces,
+            i as u16,
+            sides.swept(i),
+            &mut pairs[room..],
+        );
     }
     count
 }
@@ -33,36 +50,38 @@ pub(crate) fn list_all(tree: &[Node], boxes: &[SweptBox], pairs: &mut [Pair]) ->
 /// many there are.
 fn list_one(
     tree: &[Node],
-    run: &[SweptBox],
-    first: u16,
+    sides: &Sides,
+    first: usize,
+    count: usize,
     face: u16,
     swept: SweptBox,
     pairs: &mut [Pair],
 ) -> usize
-    requires numbers { first + length run.now ≤ 4096 }
-    requires tree { IsTree first run.now tree.now }
-    ensures count { result ≡ length (near_to face swept first run.now) }
-    ensures pairs { pairs.new ≡ put (near_to face swept first run.now) pairs.old }
+    requires numbers { first + count ≤ 4096 }
+    requires tree { IsTree first (boxes_in sides.now first count) tree.now }
+    ensures count { result ≡ length (near_to face swept first (boxes_in sides.now first count)) }
+    ensures pairs { pairs.new ≡ put (near_to face swept first (boxes_in sides.now first count)) pairs.old }
 {
-    let n = run.len();
-    if usize::from(first) + n <= usize::from(face) + 1 {
+    let from = first.max(usize::from(face) + 1);
+    let end = first + count;
+    if end <= from {
         return 0;
     }
     if !swept.meets(tree[0].bounds) {
         return 0;
     }
-    if n == 1 {
-        put_first(face, first, pairs);
-        return 1;
+    if count <= RUN {
+        return list_run(sides, from, end - from, face, swept, pairs);
     }
-    let half = n.div_ceil(2);
+    let half = count.div_ceil(2);
     let after = 2 * half;
-    let lower = list_one(&tree[1..after], &run[..half], first, face, swept, pairs);
+    let lower = list_one(&tree[1..after], sides, first, half, face, swept, pairs);
     let room = pairs.len().min(lower);
     let upper = list_one(
         &tree[after..],
-        &run[half..],
-        first + half as u16,
+        sides,
+        first + half,
+        count - half,
         face,
         swept,
         &mut pairs[room..],
@@ -70,12 +89,76 @@ fn list_one(
     lower + upper
 }
 
-/// Writes a pair into the first place, if there is one.
-fn put_first(first: u16, second: u16, pairs: &mut [Pair])
-    ensures { pairs.new ≡ put (pair first second ∷ []) pairs.old }
+/// The same for a run of later faces alone, of which each box is tested.
+fn list_run(
+    sides: &Sides,
+    first: usize,
+    count: usize,
+    face: u16,
+    swept: SweptBox,
+    pairs: &mut [Pair],
+) -> usize
+    requires numbers { first + count ≤ 4096 }
+    requires few { count ≤ 512 }
+    requires later { face < first }
+    ensures count { result ≡ length (near_to face swept first (boxes_in sides.now first count)) }
+    ensures pairs { pairs.new ≡ put (near_to face swept first (boxes_in sides.now first count)) pairs.old }
+{
+    let mut table = [false; RUN];
+    let marks = &mut table[..count];
+    let met = sides.mark(first, swept, marks);
+    put_marked(marks, first, face, pairs);
+    met
+}
+
+/// Writes as many of a face's pairs with the marked faces of a run as there is room for.
+#[tactic(auto, using(crate::proofs::Marking::put_nowhere))]
+fn put_marked(marks: &[bool], first: usize, face: u16, pairs: &mut [Pair])
+    requires numbers { first + length marks.now ≤ 4096 }
+    ensures { pairs.new ≡ put (marked face first marks.now) pairs.old }
 {
     if pairs.is_empty() {
         return;
     }
-    pairs[0] = Pair { first, second };
+    let mut count = 0;
+    for s in 0..marks.len().div_ceil(STRIDE) {
+        let start = STRIDE * s;
+        let end = marks.len().min(start + STRIDE);
+        let stride = &marks[start..end];
+        count += put_stride(stride, first + start, face, &mut pairs[count..]);
+    }
+}
+
+/// The same for the marks of one stride. Answers how many pairs it has written.
+#[tactic(auto, using(crate::proofs::Marking::none_marked))]
+fn put_stride(marks: &[bool], first: usize, face: u16, pairs: &mut [Pair]) -> usize
+    requires numbers { first + length marks.now ≤ 4096 }
+    ensures count { result ≡ min (length pairs.old) (length (marked face first marks.now)) }
+    ensures pairs { pairs.new ≡ put (marked face first marks.now) pairs.old }
+{
+    if !has_mark(marks) {
+        return 0;
+    }
+    let mut count = 0;
+    for k in 0..marks.len() {
+        if marks[k] && count < pairs.len() {
+            pairs[count] = Pair {
+                first: face,
+                second: (first + k) as u16,
+            };
+            count += 1;
+        }
+    }
+    count
+}
+
+/// Whether a mark is set. The loop has no branches, as in marking.
+fn has_mark(marks: &[bool]) -> bool
+    ensures { result ≡ list_any (λ m. m) marks.now }
+{
+    let mut any = false;
+    for k in 0..marks.len() {
+        any |= marks[k];
+    }
+    any
 }

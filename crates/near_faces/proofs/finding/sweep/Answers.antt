@@ -1,14 +1,7 @@
-use Rattle.std.proofs.Common.{◌≡◌, ℕ, ◌+◌, ◌<◌, ◌≤◌, Bool, true, false, cond, List, ◌++◌, length, map, set, take, drop, Some, None, Option, sym, ap, ap₂, ◌∙◌, subst, arith}
-use Rattle.std.proofs.lemmas.Bool.{cases_Bool}
-use Rattle.std.proofs.lemmas.List.{take_all, drop_all}
-use Rattle.sheet.specs.declared.notices.Notice.{Notice}
-use Rattle.sheet.specs.declared.notices.Layer.TheVariants.{Search}
+use Rattle.std.proofs.Common.{set, Some, None, sym, ap₂, ◌∙◌, arith}
 use Rattle.inspection.specs.Sheets.{sheet_of, face_at, no_face}
-use Rattle.inspection.specs.Tests.{corners_inside}
 use Rattle.near_faces.specs.Boxes.{swept_box}
-use Rattle.near_faces.specs.Searches.{lowest_outside, corner_checks}
 use Rattle.near_faces.proofs.Sweeping.{one_more, lowest_is, none_is, inside_of, outside_of, below_more, told}
-use Rattle.sheet.specs.Checks.{first_fit}
 use Rattle.near_faces.proofs.finding.sweep.Goals as goal
 
 pub returns-in_default-clause-fault : goal.returns-in_default-clause-fault

@@ -1,5 +1,4 @@
-use Rattle.std.proofs.Common.{length}
 use Rattle.near_faces.proofs.pairs.+list_one.Given as goal
 
 abbrev pub decreases-list_one : goal.decreases-list_one
-decreases-list_one l = length l.run.now
+decreases-list_one l = l.count

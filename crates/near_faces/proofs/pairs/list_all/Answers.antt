@@ -1,32 +1,54 @@
-use Rattle.std.proofs.Common.{◌≡◌, ◌+◌, ◌*◌, ◌≤◌, min, List, ◌++◌, length, take, sym, ap, ap₂, ◌∙◌, arith, rules, length-append, append-nil}
-use Rattle.std.proofs.lemmas.List.{take_rest}
+use Rattle.std.proofs.Common.{◌≡◌, ◌+◌, ◌*◌, ◌<◌, ◌≤◌, min, List, [], ◌++◌, length, take, sym, ap, ap₂, ◌∙◌, arith, rules, length-append, append-nil}
+use Rattle.std.proofs.lemmas.List.{take_rest, take_all}
 use Rattle.near_faces.specs.declared.pairs.Pair.{Pair}
-use Rattle.near_faces.specs.Near.{near_from, box_at}
+use Rattle.near_faces.specs.declared.boxes.SweptBox.{SweptBox}
+use Rattle.near_faces.specs.Boxes.{box_around}
+use Rattle.near_faces.specs.Near.{near_to, near_from}
 use Rattle.near_faces.specs.Listing.{put}
-use Rattle.near_faces.proofs.Listing.{length-near_to, length-put, put_halves, nothing_after, next_face}
+use Rattle.near_faces.specs.Sides.{boxes_in}
+use Rattle.near_faces.proofs.Listing.{length-put, put_halves, nothing_after, next_face}
+use Rattle.near_faces.proofs.Rows.{length-boxes_in, get_or-boxes_in, few_near}
 use Rattle.near_faces.proofs.pairs.list_all.Goals as goal
 
 pub overflow_add-count : goal.overflow_add-count
 overflow_add-count c =
-    let few : c.loop-i.count + c.list_one-count.result ≤ 4096 * 4096 = omega (arith, c.list_one-count.ensures.count, length-near_to c.loop-i.i (box_at c.args.boxes.now c.loop-i.i) 0 c.args.boxes.now) in
+    let few : c.loop-i.count + c.list_one-count.result ≤ 4096 * 4096 = omega (arith, c.list_one-count.ensures.count, few_near c.args.sides.now c.loop-i.i c.swept.result 0 c.args.faces) in
     search rules
 
 pub loop-i-preserved : goal.loop-i-preserved
 loop-i-preserved c =
-    let all = c.args.boxes.now in
+    let s = c.args.sides.now in
+    let n = c.args.faces in
+    let all = boxes_in s 0 n in
+    let many = length-boxes_in s 0 n in
     let i = c.loop-i.i in
     let inv = c.loop-i.invariant in
     let one = c.list_one-count.ensures in
-    let next = next_face all i _ c.loop-i-test.true in
+    let inside : i < length all = omega (arith, many) in
+    let here = get_or-boxes_in s 0 n i i (box_around []) c.loop-i-test.true (omega arith) ∙ sym c.swept.ensures in
     let xs = near_from all 0 (take i all) in
+    let ys = near_to i c.swept.result 0 all in
+    let next = next_face all i (box_around []) inside ∙ ap (λ (b : SweptBox). xs ++ near_to i b 0 all) here in
     let first = c.loop-i.pairs in
     let second = c.list_one-count.new.pairs in
-    let n = c.min-room.result in
-    let room : n ≡ min (length c.args.pairs.now) (length xs) = c.min-room.ensures ∙ ap₂ min (ap length inv.pairs ∙ length-put xs c.args.pairs.now) inv.count in
+    let m = c.min-room.result in
+    let room : m ≡ min (length c.args.pairs.now) (length xs) = c.min-room.ensures ∙ ap₂ min (ap length inv.pairs ∙ length-put xs c.args.pairs.now) inv.count in
     record {
-      count = ap₂ ◌+◌ inv.count one.count ∙ sym (length-append xs _) ∙ sym (ap length next);
-      few = omega (arith, inv.few, one.count, length-near_to i (box_at all i) 0 all);
-      pairs = ap (λ (ps : List Pair). take n first ++ ps) (ap (λ (ps : List Pair). second ++ ps) (nothing_after n first) ∙ append-nil second)
-          ∙ put_halves xs _ c.args.pairs.now first second n room inv.pairs (one.pairs ∙ ap (put _) (take_rest first n))
+      count = ap₂ ◌+◌ inv.count one.count ∙ sym (length-append xs ys) ∙ sym (ap length next);
+      few = omega (arith, inv.few, one.count, few_near s i c.swept.result 0 n);
+      pairs = ap (λ (ps : List Pair). take m first ++ ps) (ap (λ (ps : List Pair). second ++ ps) (nothing_after m first) ∙ append-nil second)
+          ∙ put_halves xs ys c.args.pairs.now first second m room inv.pairs (one.pairs ∙ ap (put ys) (take_rest first m))
           ∙ ap (λ (ps : List Pair). put ps c.args.pairs.now) (sym next);
     }
+
+pub returns-clause-count : goal.returns-clause-count
+returns-clause-count c =
+    let all = boxes_in c.args.sides.now 0 c.args.faces in
+    c.loop-i.invariant.count
+    ∙ ap (λ (bs : List SweptBox). length (near_from all 0 bs)) (take_all c.loop-i.i all (omega (arith, length-boxes_in c.args.sides.now 0 c.args.faces)))
+
+pub returns-clause-pairs : goal.returns-clause-pairs
+returns-clause-pairs c =
+    let all = boxes_in c.args.sides.now 0 c.args.faces in
+    c.loop-i.invariant.pairs
+    ∙ ap (λ (bs : List SweptBox). put (near_from all 0 bs) c.args.pairs.now) (take_all c.loop-i.i all (omega (arith, length-boxes_in c.args.sides.now 0 c.args.faces)))

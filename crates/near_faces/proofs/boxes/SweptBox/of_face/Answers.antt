@@ -1,6 +1,6 @@
-use Rattle.std.proofs.Common.{◌≡◌, Some, refl, ap, ap₂, ◌∙◌, rules, arith}
+use Rattle.std.proofs.Common.{ap₂, ◌∙◌, rules, arith}
 use Rattle.std.proofs.lemmas.Grind.{common_steps}
-use Rattle.near_faces.specs.Boxes.{joined, swept_if_inside}
+use Rattle.near_faces.specs.Boxes.{joined}
 use Rattle.near_faces.proofs.Sweeping.{face_box}
 use Rattle.near_faces.proofs.boxes.SweptBox.of_face.Goals as goal
 

@@ -1,0 +1,23 @@
+use Rattle.std.proofs.Common.{◌≡◌, List, Bool, map, sym, ap, ◌∙◌, rules}
+use Rattle.std.specs.List.{count_by}
+use Rattle.near_faces.specs.Boxes.{meets}
+use Rattle.near_faces.specs.declared.pairs.Pair.{Pair}
+use Rattle.near_faces.specs.Listing.{marked, put}
+use Rattle.near_faces.specs.Sides.{boxes_in}
+use Rattle.near_faces.proofs.Marking.{marked_near, count_near}
+use Rattle.near_faces.proofs.pairs.list_run.Goals as goal
+
+pub returns-clause-count : goal.returns-clause-count
+returns-clause-count c =
+    let a = c.args in
+    let run = boxes_in a.sides.now a.first a.count in
+    let e : c.mark-met.result ≡ count_by (meets a.swept) run = search rules in
+    e ∙ sym (count_near a.face a.swept a.first run c.requires.later)
+
+pub returns-clause-pairs : goal.returns-clause-pairs
+returns-clause-pairs c =
+    let a = c.args in
+    let run = boxes_in a.sides.now a.first a.count in
+    let e : c.mark-met.new.marks ≡ map (meets a.swept) run = search rules in
+    c.put_marked.ensures ∙ ap (λ (ms : List Bool). put (marked a.face a.first ms) a.pairs.now) e
+    ∙ ap (λ (ps : List Pair). put ps a.pairs.now) (marked_near a.face a.swept a.first run c.requires.later)
