@@ -1,8 +1,8 @@
 -- The pairs of a run of which some faces are marked, written one after another.
-use Rattle.std.proofs.Common.{◌≡◌, ℕ, zero, suc, ◌+◌, ◌-◌, ◌<◌, ◌≤◌, min, Bool, true, false, ◌&&◌, cond, List, [], ◌∷◌, ◌++◌, length, map, get_or, set, take, drop, refl, sym, ap, ◌∙◌, arith, append-nil, length-append, length-drop, add-zero, length-take-le, lt-ltb}
+use Rattle.std.proofs.Common.{◌≡◌, ℕ, zero, suc, ◌+◌, ◌-◌, ◌<◌, ◌≤◌, min, Bool, true, false, ◌&&◌, cond, List, [], ◌∷◌, ◌++◌, length, map, get_or, set, take, drop, refl, sym, ap, ◌∙◌, arith, append-nil, length-append, length-drop, take-append-drop, add-zero, length-take-le, lt-ltb}
 use Rattle.std.specs.List.{count_by, list_any}
 use Rattle.std.proofs.Math.Seq.{take-add}
-use Rattle.std.proofs.lemmas.List.{take_more, take_all, drop_all}
+use Rattle.std.proofs.lemmas.List.{take_more, take_all, drop_all, take_rest}
 use Rattle.std.proofs.lemmas.List.Sums.{sum_by-cons, count_by_more_yes, count_by_more_no}
 use mir.Val.{bool_byte}
 use Rattle.near_faces.specs.declared.boxes.SweptBox.{SweptBox}
@@ -118,40 +118,35 @@ module _ (i f : ℕ) (ms : List Bool) (old : List Pair) (k n : ℕ) (ps : List P
         pairs = ap (λ l. set l n (pair i (f + k))) w.pairs ∙ put_next found old (pair i (f + k)) n w.count fits ∙ ap (λ l. put l old) (sym next);
       }
 
+pub put_none : {A : Type 0} (xs ys : List A) → length xs ≡ 0 → ys ≡ put xs ys
+put_none [] ys h = refl
+put_none (x ∷ xs) ys h = absurd (omega arith)
+
 pub put_nowhere : {A : Type 0} (xs ys : List A) → length ys ≡ 0 → ys ≡ put xs ys
 put_nowhere [] ys h = refl
 put_nowhere (x ∷ xs) [] h = refl
 put_nowhere (x ∷ xs) (y ∷ ys) h = absurd (omega arith)
 
 -- ---- one stride after another
--- as many as there are, and no more
-same_take : {A : Type 0} (m n : ℕ) (xs : List A) → n ≡ min (length xs) m → take n xs ≡ take m xs
-same_take zero zero xs e = refl
-same_take zero (suc n) xs e = absurd (omega arith)
-same_take (suc m) zero [] e = refl
-same_take (suc m) (suc n) [] e = refl
-same_take (suc m) zero (x ∷ xs) e = absurd (omega arith)
-same_take (suc m) (suc n) (x ∷ xs) e = ap (λ l. x ∷ l) (same_take m n xs (omega arith))
-
--- the marks of the stride from k on, which ends at e
-abbrev stride : ℕ → ℕ → List Bool → List Bool
-stride k e ms = take (e - k) (drop k ms)
-
-pub stride_written : (i f : ℕ) (ms : List Bool) (old : List Pair) (k e k' n m : ℕ) (ps rest second : List Pair) → Written i f ms old k n ps
-    → rest ≡ drop n ps → k ≤ length ms → e ≡ min (length ms) (k + 16) → k' ≡ k + 16
-    → m ≡ min (length rest) (length (marked i (f + k) (stride k e ms))) → second ≡ put (marked i (f + k) (stride k e ms)) rest
+pub stride_written : (i f : ℕ) (ms stride : List Bool) (old : List Pair) (k k' n m : ℕ) (ps rest second : List Pair) → Written i f ms old k n ps
+    → rest ≡ drop n ps → k ≤ length ms → take k' ms ≡ take k ms ++ stride
+    → m ≡ min (length rest) (length (marked i (f + k) stride)) → second ≡ put (marked i (f + k) stride) rest
     → Written i f ms old k' (n + m) (put_mid n (length ps - n) ps second)
-stride_written i f ms old k e k' n m ps rest second w rest_is inside e_is k'_is m_is second_is =
+stride_written i f ms stride old k k' n m ps rest second w rest_is inside strides m_is second_is =
     let found = marked i f (take k ms) in
-    let more = marked i (f + k) (stride k e ms) in
-    let strides : take k' ms ≡ take k ms ++ stride k e ms =
-    ap (λ (j : ℕ). take j ms) k'_is ∙ take-add k 16 ms ∙ ap (λ l. take k ms ++ l) (sym (same_take 16 (e - k) (drop k ms) (omega (arith, length-drop k ms)))) in
+    let more = marked i (f + k) stride in
     let next : marked i f (take k' ms) ≡ found ++ more =
-    ap (marked i f) strides ∙ marked-append i f (take k ms) (stride k e ms)
-    ∙ ap (λ (j : ℕ). found ++ marked i (f + j) (stride k e ms)) (length-take-le k ms inside) in
+    ap (marked i f) strides ∙ marked-append i f (take k ms) stride ∙ ap (λ (j : ℕ). found ++ marked i (f + j) stride) (length-take-le k ms inside) in
     record {
       count = omega (arith, w.count, m_is, ap length next, length-append found more, length-drop n ps, ap length rest_is, ap length w.pairs, length-put found old);
       pairs = ap (λ l. take n ps ++ (second ++ l)) (nothing_after n ps) ∙ ap (λ l. take n ps ++ l) (append-nil second)
           ∙ put_halves found more old ps second n w.count w.pairs (second_is ∙ ap (put more) rest_is)
           ∙ ap (λ l. put l old) (sym next);
     }
+
+-- sixteen marks more, and those that are left
+pub one_stride : (ms : List Bool) (k k' e : ℕ) → k' ≡ k + 16 → e ≡ 16 → take k' ms ≡ take k ms ++ take e (drop k ms)
+one_stride ms k k' e k'_is e_is = ap (λ (j : ℕ). take j ms) (k'_is ∙ ap (λ (j : ℕ). k + j) (sym e_is)) ∙ take-add k e ms
+
+pub last_stride : (ms : List Bool) (k : ℕ) → take (length ms) ms ≡ take k ms ++ take (length ms - k) (drop k ms)
+last_stride ms k = take_all (length ms) ms (omega arith) ∙ sym (ap (λ l. take k ms ++ l) (take_rest ms k) ∙ take-append-drop k ms)

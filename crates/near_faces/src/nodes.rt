@@ -1,11 +1,11 @@
 // The tree over a run of boxes.
-ghost use Rattle.std.specs.Prelude.{◌≡◌, ◌+◌, ◌*◌, ◌<◌, ◌≤◌, length};
+ghost use Rattle.std.specs.Prelude.{◌≡◌, ◌+◌, ◌*◌, ◌/◌, ◌<◌, ◌≤◌, length};
 ghost use Rattle.near_faces.specs.Trees.{IsTree};
 
 use crate::boxes::SweptBox;
 
-/// A run of face numbers and the least box around theirs. After it stand the trees of the run's halves, first the lower, which at an odd run is
-/// the longer.
+/// A run of face numbers and the least box around theirs. After it stand the trees of the run's
+/// halves, first the lower, which at an odd run is the longer.
 #[derive(Clone, Copy, Debug, Default, PartialEq, Eq)]
 pub struct Node {
     pub first: u16,
@@ -29,7 +29,7 @@ pub(crate) fn build(run: &[SweptBox], first: u16, nodes: &mut [Node])
         };
         return;
     }
-    let half = n.div_ceil(2);
+    let half = lower_half(n);
     let after = 2 * half;
     build(&run[..half], first, &mut nodes[1..after]);
     build(&run[half..], first + half as u16, &mut nodes[after..]);
@@ -39,4 +39,11 @@ pub(crate) fn build(run: &[SweptBox], first: u16, nodes: &mut [Node])
         count: n as u16,
         bounds,
     };
+}
+
+/// How many boxes the lower half of a run has.
+pub(crate) fn lower_half(n: usize) -> usize
+    ensures { result ≡ (n + 1) / 2 }
+{
+    n.div_ceil(2)
 }

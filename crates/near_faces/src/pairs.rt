@@ -7,7 +7,7 @@ ghost use Rattle.near_faces.specs.Listing.{marked, put};
 ghost use Rattle.near_faces.specs.Sides.{boxes_in};
 
 use crate::boxes::SweptBox;
-use crate::nodes::Node;
+use crate::nodes::{Node, lower_half};
 use crate::sides::Sides;
 
 /// The boxes of a run of up to so many faces are all tested, in one loop.
@@ -73,7 +73,7 @@ fn list_one(
     if count <= RUN {
         return list_run(sides, from, end - from, face, swept, pairs);
     }
-    let half = count.div_ceil(2);
+    let half = lower_half(count);
     let after = 2 * half;
     let lower = list_one(&tree[1..after], sides, first, half, face, swept, pairs);
     let room = pairs.len().min(lower);
@@ -107,6 +107,9 @@ fn list_run(
     let mut table = [false; RUN];
     let marks = &mut table[..count];
     let met = sides.mark(first, swept, marks);
+    if met == 0 {
+        return 0;
+    }
     put_marked(marks, first, face, pairs);
     met
 }
@@ -120,13 +123,15 @@ fn put_marked(marks: &[bool], first: usize, face: u16, pairs: &mut [Pair])
     if pairs.is_empty() {
         return;
     }
+    let strides = marks.len() / STRIDE;
     let mut count = 0;
-    for s in 0..marks.len().div_ceil(STRIDE) {
+    for s in 0..strides {
         let start = STRIDE * s;
-        let end = marks.len().min(start + STRIDE);
-        let stride = &marks[start..end];
+        let stride = &marks[start..start + STRIDE];
         count += put_stride(stride, first + start, face, &mut pairs[count..]);
     }
+    let start = STRIDE * strides;
+    put_each(&marks[start..], first + start, face, &mut pairs[count..]);
 }
 
 /// The same for the marks of one stride. Answers how many pairs it has written.
@@ -139,6 +144,15 @@ fn put_stride(marks: &[bool], first: usize, face: u16, pairs: &mut [Pair]) -> us
     if !has_mark(marks) {
         return 0;
     }
+    put_each(marks, first, face, pairs)
+}
+
+/// The same, with a look at each mark.
+fn put_each(marks: &[bool], first: usize, face: u16, pairs: &mut [Pair]) -> usize
+    requires numbers { first + length marks.now ≤ 4096 }
+    ensures count { result ≡ min (length pairs.old) (length (marked face first marks.now)) }
+    ensures pairs { pairs.new ≡ put (marked face first marks.now) pairs.old }
+{
     let mut count = 0;
     for k in 0..marks.len() {
         if marks[k] && count < pairs.len() {

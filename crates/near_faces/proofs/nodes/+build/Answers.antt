@@ -13,7 +13,7 @@ returns-then-n-eq1 t c =
 pub returns : goal.returns
 returns t c =
     let a = c.args in
-    let h = c.div_ceil-half.result in
+    let h = c.lower_half-half.result in
     built a.first h (2 * h) (2 * h - 1) _ a.run.now a.nodes.now c.build.new.nodes c.build-2.new.nodes c.join-bounds.result _ _ (omega arith) (omega arith) (omega arith) refl refl refl
     c.build.ensures
     (subst (λ (xs : List SweptBox). IsTree (a.first + h) xs c.build-2.new.nodes) (take_rest a.run.now h) c.build-2.ensures)

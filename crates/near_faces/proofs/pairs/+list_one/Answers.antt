@@ -62,13 +62,13 @@ slice_bounds-list_one-end t c =
 pub list_one-lower-requires : goal.list_one-lower-requires
 list_one-lower-requires t c =
     let a = c.args in
-    let h = two_trees a.sides.now a.first a.count c.div_ceil-half.result a.tree.now c.requires.tree (omega arith) (omega arith) in
+    let h = two_trees a.sides.now a.first a.count c.lower_half-half.result a.tree.now c.requires.tree (omega arith) (omega arith) in
     (search rules, (search rules, h.lower))
 
 pub list_one-upper-requires : goal.list_one-upper-requires
 list_one-upper-requires t c =
     let a = c.args in
-    let half = c.div_ceil-half.result in
+    let half = c.lower_half-half.result in
     let h = two_trees a.sides.now a.first a.count half a.tree.now c.requires.tree (omega arith) (omega arith) in (
       search rules,
       (
@@ -80,7 +80,7 @@ list_one-upper-requires t c =
 pub overflow_add-result : goal.overflow_add-result
 overflow_add-result t c =
     let a = c.args in
-    let h = c.div_ceil-half.result in
+    let h = c.lower_half-half.result in
     let few : c.list_one-lower.result + c.list_one-upper.result ≤ 8192 = omega (
       arith,
       c.list_one-lower.ensures.count,
@@ -93,7 +93,7 @@ overflow_add-result t c =
 pub returns-clause-count : goal.returns-clause-count
 returns-clause-count t c =
     let a = c.args in
-    let h = c.div_ceil-half.result in
+    let h = c.lower_half-half.result in
     let lower = near_to a.face a.swept a.first (boxes_in a.sides.now a.first h) in
     let upper = near_to a.face a.swept (a.first + h) (boxes_in a.sides.now (a.first + h) (a.count - h)) in
     ap₂ ◌+◌ c.list_one-lower.ensures.count c.list_one-upper.ensures.count ∙ sym (length-append lower upper)
@@ -102,7 +102,7 @@ returns-clause-count t c =
 pub returns-clause-pairs : goal.returns-clause-pairs
 returns-clause-pairs t c =
     let a = c.args in
-    let h = c.div_ceil-half.result in
+    let h = c.lower_half-half.result in
     let lower = near_to a.face a.swept a.first (boxes_in a.sides.now a.first h) in
     let upper = near_to a.face a.swept (a.first + h) (boxes_in a.sides.now (a.first + h) (a.count - h)) in
     let first = c.list_one-lower.new.pairs in

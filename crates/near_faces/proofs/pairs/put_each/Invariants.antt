@@ -1,5 +1,5 @@
 use Rattle.near_faces.proofs.Marking.{Written}
-use Rattle.near_faces.proofs.pairs.put_stride.Given as goal
+use Rattle.near_faces.proofs.pairs.put_each.Given as goal
 
 -- the pairs of the first k faces are written, as far as there is room
 abbrev pub invariant-loop-k : goal.invariant-loop-k

@@ -1,7 +1,7 @@
 use Rattle.std.proofs.Common.{◌+◌, sym, subst₂}
 use Rattle.near_faces.proofs.Marking.{Written, not_marked, no_room, one_written}
-use Rattle.near_faces.proofs.pairs.put_stride.Goals as goal
-use Rattle.near_faces.proofs.pairs.put_stride.Goals.{then-marks-k+then-count-pairs, else-marks-k, else-marks-k-via-then-marks-k+else-count-pairs, else-marks-k-via-else-marks-k}
+use Rattle.near_faces.proofs.pairs.put_each.Goals as goal
+use Rattle.near_faces.proofs.pairs.put_each.Goals.{then-marks-k+then-count-pairs, else-marks-k, else-marks-k-via-then-marks-k+else-count-pairs, else-marks-k-via-else-marks-k}
 
 pub loop-k-preserved : goal.loop-k-preserved
 loop-k-preserved c =
