@@ -1,5 +1,5 @@
 -- The pairs of a run of which some faces are marked, written one after another.
-use Rattle.std.proofs.Common.{◌≡◌, ℕ, zero, suc, ◌+◌, ◌-◌, ◌<◌, ◌≤◌, min, Bool, true, false, ◌&&◌, cond, List, [], ◌∷◌, ◌++◌, length, map, get_or, set, take, drop, refl, sym, ap, ◌∙◌, arith, append-nil, length-append, length-drop, take-append-drop, add-zero, length-take-le, lt-ltb}
+use Rattle.std.proofs.Common.{◌≡◌, ℕ, zero, suc, ◌+◌, ◌-◌, ◌*◌, ◌<◌, ◌≤◌, min, Bool, true, false, ◌&&◌, cond, List, [], ◌∷◌, ◌++◌, length, map, get_or, set, take, drop, refl, sym, ap, ◌∙◌, arith, append-nil, length-append, length-drop, take-append-drop, add-zero, length-take-le, lt-ltb}
 use Rattle.std.specs.List.{count_by, list_any}
 use Rattle.std.proofs.Math.Seq.{take-add}
 use Rattle.std.proofs.lemmas.List.{take_more, take_all, drop_all, take_rest}
@@ -128,25 +128,72 @@ put_nowhere (x ∷ xs) [] h = refl
 put_nowhere (x ∷ xs) (y ∷ ys) h = absurd (omega arith)
 
 -- ---- one stride after another
-pub stride_written : (i f : ℕ) (ms stride : List Bool) (old : List Pair) (k k' n m : ℕ) (ps rest second : List Pair) → Written i f ms old k n ps
-    → rest ≡ drop n ps → k ≤ length ms → take k' ms ≡ take k ms ++ stride
-    → m ≡ min (length rest) (length (marked i (f + k) stride)) → second ≡ put (marked i (f + k) stride) rest
-    → Written i f ms old k' (n + m) (put_mid n (length ps - n) ps second)
-stride_written i f ms stride old k k' n m ps rest second w rest_is inside strides m_is second_is =
-    let found = marked i f (take k ms) in
-    let more = marked i (f + k) stride in
-    let next : marked i f (take k' ms) ≡ found ++ more =
-    ap (marked i f) strides ∙ marked-append i f (take k ms) stride ∙ ap (λ (j : ℕ). found ++ marked i (f + j) stride) (length-take-le k ms inside) in
-    record {
-      count = omega (arith, w.count, m_is, ap length next, length-append found more, length-drop n ps, ap length rest_is, ap length w.pairs, length-put found old);
-      pairs = ap (λ l. take n ps ++ (second ++ l)) (nothing_after n ps) ∙ ap (λ l. take n ps ++ l) (append-nil second)
-          ∙ put_halves found more old ps second n w.count w.pairs (second_is ∙ ap (put more) rest_is)
-          ∙ ap (λ l. put l old) (sym next);
-    }
-
 -- sixteen marks more, and those that are left
-pub one_stride : (ms : List Bool) (k k' e : ℕ) → k' ≡ k + 16 → e ≡ 16 → take k' ms ≡ take k ms ++ take e (drop k ms)
-one_stride ms k k' e k'_is e_is = ap (λ (j : ℕ). take j ms) (k'_is ∙ ap (λ (j : ℕ). k + j) (sym e_is)) ∙ take-add k e ms
+pub sixteen_more : (i f : ℕ) (ms : List Bool) (s : ℕ) → 16 * (s + 1) ≤ length ms
+    → marked i f (take (16 * (s + 1)) ms) ≡ marked i f (take (16 * s) ms) ++ marked i (f + 16 * s) (take (16 * s + 16 - 16 * s) (drop (16 * s) ms))
+sixteen_more i f ms s h =
+    let k = 16 * s in
+    let e = k + 16 - k in
+    let more : 16 * (s + 1) ≡ k + e = omega arith in
+    ap (λ (j : ℕ). marked i f (take j ms)) more ∙ ap (marked i f) (take-add k e ms) ∙ marked-append i f (take k ms) (take e (drop k ms))
+    ∙ ap (λ (j : ℕ). marked i f (take k ms) ++ marked i (f + j) (take e (drop k ms))) (length-take-le k ms (omega arith))
 
-pub last_stride : (ms : List Bool) (k : ℕ) → take (length ms) ms ≡ take k ms ++ take (length ms - k) (drop k ms)
-last_stride ms k = take_all (length ms) ms (omega arith) ∙ sym (ap (λ l. take k ms ++ l) (take_rest ms k) ∙ take-append-drop k ms)
+pub those_left : (i f : ℕ) (ms : List Bool) (k : ℕ) → k ≤ length ms → marked i f (take k ms) ++ marked i (f + k) (take (length ms - k) (drop k ms)) ≡ marked i f ms
+those_left i f ms k h =
+    ap (λ (xs : List Bool). marked i f (take k ms) ++ marked i (f + k) xs) (take_rest ms k)
+    ∙ ap (λ (j : ℕ). marked i f (take k ms) ++ marked i (f + j) (drop k ms)) (sym (length-take-le k ms h))
+    ∙ sym (marked-append i f (take k ms) (drop k ms))
+    ∙ ap (marked i f) (take-append-drop k ms)
+
+-- what is written in two turns
+pub in_two_turns : {A : Type 0} (xs ys zs : List A)
+    → put_mid (min (length zs) (length xs)) (length (put xs zs) - min (length zs) (length xs)) (put xs zs) (put ys (take (length (put xs zs) - min (length zs) (length xs)) (drop (min (length zs) (length xs)) (put xs zs)))) ≡ put (xs ++ ys) zs
+in_two_turns xs ys zs =
+    let n = min (length zs) (length xs) in
+    let ps = put xs zs in
+    let second = put ys (take (length ps - n) (drop n ps)) in
+    ap (λ l. take n ps ++ (second ++ l)) (nothing_after n ps) ∙ ap (λ l. take n ps ++ l) (append-nil second)
+    ∙ put_halves xs ys zs ps second n refl refl (ap (put ys) (take_rest ps n))
+
+pub count_two_turns : {A : Type 0} (xs ys zs : List A)
+    → min (length zs) (length xs) + min (length (take (length (put xs zs) - min (length zs) (length xs)) (drop (min (length zs) (length xs)) (put xs zs)))) (length ys) ≡ min (length zs) (length (xs ++ ys))
+count_two_turns xs ys zs =
+    let n = min (length zs) (length xs) in
+    let ps = put xs zs in
+    omega (arith, length-append xs ys, length-put xs zs, ap length (take_rest ps n), length-drop n ps)
+
+-- ---- equations for one more mark
+module _ (i f : ℕ) (ms : List Bool) (old : List Pair) (k : ℕ) where
+  abbrev written : List Pair
+  written = put (marked i f (take k ms)) old
+
+  abbrev many : ℕ
+  many = min (length old) (length (marked i f (take k ms)))
+
+  so_far : Written i f ms old k many written
+  so_far = record { count = refl; pairs = refl }
+
+  room_is : length written ≡ length old
+  room_is = length-put (marked i f (take k ms)) old
+
+  pub pairs_unmarked : k < length ms → get_or ms k false ≡ false → put (marked i f (take (k + 1) ms)) old ≡ written
+  pairs_unmarked h e = sym (not_marked i f ms old k many written so_far h e).pairs
+
+  pub count_unmarked : k < length ms → get_or ms k false ≡ false → min (length old) (length (marked i f (take (k + 1) ms))) ≡ many
+  count_unmarked h e = sym (not_marked i f ms old k many written so_far h e).count
+
+  pub pairs_full : k < length ms → length old ≤ many → put (marked i f (take (k + 1) ms)) old ≡ written
+  pairs_full h full = sym (no_room i f ms old k many written so_far h (omega (arith, room_is))).pairs
+
+  pub count_full : k < length ms → length old ≤ many → min (length old) (length (marked i f (take (k + 1) ms))) ≡ many
+  count_full h full = sym (no_room i f ms old k many written so_far h (omega (arith, room_is))).count
+
+  pub pairs_marked : k < length ms → get_or ms k false ≡ true → many < length old → put (marked i f (take (k + 1) ms)) old ≡ set written many (pair i (f + k))
+  pairs_marked h e room = sym (one_written i f ms old k many written so_far h e (omega (arith, room_is))).pairs
+
+  pub count_marked : k < length ms → get_or ms k false ≡ true → many < length old → min (length old) (length (marked i f (take (k + 1) ms))) ≡ many + 1
+  count_marked h e room = sym (one_written i f ms old k many written so_far h e (omega (arith, room_is))).count
+
+pub ruleset two_turns = (in_two_turns, count_two_turns)
+
+pub ruleset next_marks = (pairs_unmarked, count_unmarked, pairs_full, count_full, pairs_marked, count_marked)

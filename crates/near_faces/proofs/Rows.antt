@@ -4,12 +4,13 @@ use Rattle.std.specs.List.{range_with_len}
 use Rattle.std.proofs.lemmas.List.FromFn.{map-range_with_len_more, take-map-range_with_len, length-map-range_with_len, get_or-map-range_with_len}
 use Rattle.near_faces.specs.declared.boxes.SweptBox.{SweptBox}
 use Rattle.near_faces.specs.declared.sides.Sides.{Sides}
+use Rattle.std.proofs.lemmas.List.{take_all}
 use Rattle.near_faces.specs.declared.nodes.Node.{Node}
-use Rattle.near_faces.specs.Near.{near_to}
+use Rattle.near_faces.specs.Near.{near_to, near_from}
 use Rattle.near_faces.specs.Sides.{box_in, boxes_in}
 use Rattle.near_faces.specs.Trees.{IsTree}
 use Rattle.near_faces.proofs.Halving.{half_trees}
-use Rattle.near_faces.proofs.Listing.{in_halves, none_later, length-near_to}
+use Rattle.near_faces.proofs.Listing.{in_halves, none_later, length-near_to, next_face}
 
 same_rows : {X : Type 0} (f g : ℕ → X) (a n : ℕ) → ((k : ℕ) → k < a + n → f k ≡ g k) → map f (range_with_len a n) ≡ map g (range_with_len a n)
 same_rows f g a zero h = refl
@@ -121,3 +122,13 @@ two_trees s first count h ns t two h_is =
       lower = subst (λ (bs : List SweptBox). IsTree first bs (take (2 * h - 1) (drop 1 ns))) (take-boxes_in s first count h le) halves.lower;
       upper = subst (λ (bs : List SweptBox). IsTree (first + h) bs (drop (2 * h) ns)) (drop-boxes_in s first count h le) halves.upper;
     }
+
+-- one face after another
+pub next_near : (s : Sides) (n i : ℕ) → i < n → near_from (boxes_in s 0 n) 0 (take (i + 1) (boxes_in s 0 n)) ≡ near_from (boxes_in s 0 n) 0 (take i (boxes_in s 0 n)) ++ near_to i (box_in s i) 0 (boxes_in s 0 n)
+next_near s n i h =
+    let all = boxes_in s 0 n in
+    next_face all i (box_in s i) (omega (arith, length-boxes_in s 0 n))
+    ∙ ap (λ (b : SweptBox). near_from all 0 (take i all) ++ near_to i b 0 all) (get_or-boxes_in s 0 n i i (box_in s i) h (omega arith))
+
+pub all_faces : (s : Sides) (n i : ℕ) → n ≤ i → take i (boxes_in s 0 n) ≡ boxes_in s 0 n
+all_faces s n i h = take_all i (boxes_in s 0 n) (omega (arith, length-boxes_in s 0 n))

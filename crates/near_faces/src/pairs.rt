@@ -24,6 +24,7 @@ pub struct Pair {
 }
 
 /// Writes as many of all pairs as there is room for, and answers how many there are.
+#[tactic(auto, using(crate::proofs::Rows::next_near, crate::proofs::Rows::all_faces, crate::proofs::Rows::few_near, crate::proofs::Marking::two_turns))]
 pub(crate) fn list_all(tree: &[Node], sides: &Sides, faces: usize, pairs: &mut [Pair]) -> usize
     requires faces { faces ≤ 4096 }
     requires tree { IsTree 0 (boxes_in sides.now 0 faces) tree.now }
@@ -115,7 +116,7 @@ fn list_run(
 }
 
 /// Writes as many of a face's pairs with the marked faces of a run as there is room for.
-#[tactic(auto, using(crate::proofs::Marking::put_nowhere))]
+#[tactic(auto, using(crate::proofs::Marking::put_nowhere, crate::proofs::Marking::sixteen_more, crate::proofs::Marking::those_left, crate::proofs::Marking::two_turns))]
 fn put_marked(marks: &[bool], first: usize, face: u16, pairs: &mut [Pair])
     requires numbers { first + length marks.now ≤ 4096 }
     ensures { pairs.new ≡ put (marked face first marks.now) pairs.old }
@@ -148,6 +149,7 @@ fn put_stride(marks: &[bool], first: usize, face: u16, pairs: &mut [Pair]) -> us
 }
 
 /// The same, with a look at each mark.
+#[tactic(auto, using(crate::proofs::Marking::next_marks))]
 fn put_each(marks: &[bool], first: usize, face: u16, pairs: &mut [Pair]) -> usize
     requires numbers { first + length marks.now ≤ 4096 }
     ensures count { result ≡ min (length pairs.old) (length (marked face first marks.now)) }

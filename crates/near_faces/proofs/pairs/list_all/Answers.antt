@@ -1,34 +1,25 @@
-use Rattle.std.proofs.Common.{◌≡◌, ◌+◌, ◌*◌, ◌<◌, ◌≤◌, min, List, [], ◌++◌, length, take, sym, ap, ap₂, ◌∙◌, arith, rules, length-append, append-nil}
-use Rattle.std.proofs.lemmas.List.{take_rest, take_all}
+use Rattle.std.proofs.Common.{◌≡◌, ◌+◌, min, List, ◌++◌, length, take, sym, ap, ap₂, ◌∙◌, arith, length-append, append-nil}
+use Rattle.std.proofs.lemmas.List.{take_rest}
 use Rattle.near_faces.specs.declared.pairs.Pair.{Pair}
 use Rattle.near_faces.specs.declared.boxes.SweptBox.{SweptBox}
-use Rattle.near_faces.specs.Boxes.{box_around}
 use Rattle.near_faces.specs.Near.{near_to, near_from}
 use Rattle.near_faces.specs.Listing.{put}
 use Rattle.near_faces.specs.Sides.{boxes_in}
-use Rattle.near_faces.proofs.Listing.{length-put, put_halves, nothing_after, next_face}
-use Rattle.near_faces.proofs.Rows.{length-boxes_in, get_or-boxes_in, few_near}
+use Rattle.near_faces.proofs.Listing.{length-put, put_halves, nothing_after}
+use Rattle.near_faces.proofs.Rows.{next_near, few_near}
 use Rattle.near_faces.proofs.pairs.list_all.Goals as goal
-
-pub overflow_add-count : goal.overflow_add-count
-overflow_add-count c =
-    let few : c.loop-i.count + c.list_one-count.result ≤ 4096 * 4096 = omega (arith, c.list_one-count.ensures.count, few_near c.args.sides.now c.loop-i.i c.swept.result 0 c.args.faces) in
-    search rules
 
 pub loop-i-preserved : goal.loop-i-preserved
 loop-i-preserved c =
     let s = c.args.sides.now in
     let n = c.args.faces in
     let all = boxes_in s 0 n in
-    let many = length-boxes_in s 0 n in
     let i = c.loop-i.i in
     let inv = c.loop-i.invariant in
     let one = c.list_one-count.ensures in
-    let inside : i < length all = omega (arith, many) in
-    let here = get_or-boxes_in s 0 n i i (box_around []) c.loop-i-test.true (omega arith) ∙ sym c.swept.ensures in
     let xs = near_from all 0 (take i all) in
     let ys = near_to i c.swept.result 0 all in
-    let next = next_face all i (box_around []) inside ∙ ap (λ (b : SweptBox). xs ++ near_to i b 0 all) here in
+    let next = next_near s n i c.loop-i-test.true ∙ ap (λ (b : SweptBox). xs ++ near_to i b 0 all) (sym c.swept.ensures) in
     let first = c.loop-i.pairs in
     let second = c.list_one-count.new.pairs in
     let m = c.min-room.result in
@@ -40,15 +31,3 @@ loop-i-preserved c =
           ∙ put_halves xs ys c.args.pairs.now first second m room inv.pairs (one.pairs ∙ ap (put ys) (take_rest first m))
           ∙ ap (λ (ps : List Pair). put ps c.args.pairs.now) (sym next);
     }
-
-pub returns-clause-count : goal.returns-clause-count
-returns-clause-count c =
-    let all = boxes_in c.args.sides.now 0 c.args.faces in
-    c.loop-i.invariant.count
-    ∙ ap (λ (bs : List SweptBox). length (near_from all 0 bs)) (take_all c.loop-i.i all (omega (arith, length-boxes_in c.args.sides.now 0 c.args.faces)))
-
-pub returns-clause-pairs : goal.returns-clause-pairs
-returns-clause-pairs c =
-    let all = boxes_in c.args.sides.now 0 c.args.faces in
-    c.loop-i.invariant.pairs
-    ∙ ap (λ (bs : List SweptBox). put (near_from all 0 bs) c.args.pairs.now) (take_all c.loop-i.i all (omega (arith, length-boxes_in c.args.sides.now 0 c.args.faces)))
