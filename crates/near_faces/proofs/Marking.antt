@@ -194,6 +194,6 @@ module _ (i f : ℕ) (ms : List Bool) (old : List Pair) (k : ℕ) where
   pub count_marked : k < length ms → get_or ms k false ≡ true → many < length old → min (length old) (length (marked i f (take (k + 1) ms))) ≡ many + 1
   count_marked h e room = sym (one_written i f ms old k many written so_far h e (omega (arith, room_is))).count
 
-pub ruleset two_turns = (in_two_turns, count_two_turns)
-
 pub ruleset next_marks = (pairs_unmarked, count_unmarked, pairs_full, count_full, pairs_marked, count_marked)
+
+pub ruleset strides = (put_nowhere, sixteen_more, those_left, in_two_turns, count_two_turns)

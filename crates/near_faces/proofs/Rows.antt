@@ -132,3 +132,5 @@ next_near s n i h =
 
 pub all_faces : (s : Sides) (n i : ℕ) → n ≤ i → take i (boxes_in s 0 n) ≡ boxes_in s 0 n
 all_faces s n i h = take_all i (boxes_in s 0 n) (omega (arith, length-boxes_in s 0 n))
+
+pub ruleset all_of_them = (all_faces, few_near)

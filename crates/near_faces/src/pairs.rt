@@ -1,5 +1,5 @@
 // All pairs of faces whose boxes meet.
-ghost use Rattle.std.specs.Prelude.{◌≡◌, ◌+◌, ◌<◌, ◌≤◌, length, min};
+ghost use Rattle.std.specs.Prelude.{◌≡◌, ◌+◌, ◌<◌, ◌≤◌, length, min, max};
 ghost use Rattle.std.specs.List.{list_any};
 ghost use Rattle.near_faces.specs.Trees.{IsTree};
 ghost use Rattle.near_faces.specs.Near.{near_to, near};
@@ -10,10 +10,10 @@ use crate::boxes::SweptBox;
 use crate::nodes::{Node, lower_half};
 use crate::sides::Sides;
 
-/// The boxes of a run of up to so many faces are all tested, in one loop.
+/// A run of up to so many faces is not halved further: all its boxes are tested.
 const RUN: usize = 512;
 
-/// Marks are passed over in strides of so many where none is set.
+/// Where none of so many marks is set, they are passed over at once.
 const STRIDE: usize = 16;
 
 /// Two different faces, the lower number first.
@@ -24,7 +24,7 @@ pub struct Pair {
 }
 
 /// Writes as many of all pairs as there is room for, and answers how many there are.
-#[tactic(auto, using(crate::proofs::Rows::next_near, crate::proofs::Rows::all_faces, crate::proofs::Rows::few_near, crate::proofs::Marking::two_turns))]
+#[tactic(auto, using(crate::proofs::Rows::all_of_them))]
 pub(crate) fn list_all(tree: &[Node], sides: &Sides, faces: usize, pairs: &mut [Pair]) -> usize
     requires faces { faces ≤ 4096 }
     requires tree { IsTree 0 (boxes_in sides.now 0 faces) tree.now }
@@ -61,9 +61,10 @@ fn list_one(
     requires numbers { first + count ≤ 4096 }
     requires tree { IsTree first (boxes_in sides.now first count) tree.now }
     ensures count { result ≡ length (near_to face swept first (boxes_in sides.now first count)) }
-    ensures pairs { pairs.new ≡ put (near_to face swept first (boxes_in sides.now first count)) pairs.old }
+    ensures pairs { pairs.new
+        ≡ put (near_to face swept first (boxes_in sides.now first count)) pairs.old }
 {
-    let from = first.max(usize::from(face) + 1);
+    let from = first_later(first, face);
     let end = first + count;
     if end <= from {
         return 0;
@@ -90,7 +91,14 @@ fn list_one(
     lower + upper
 }
 
-/// The same for a run of later faces alone, of which each box is tested.
+/// Where the faces after this one begin in a run that begins at `first`.
+fn first_later(first: usize, face: u16) -> usize
+    ensures { result ≡ max first (face + 1) }
+{
+    first.max(usize::from(face) + 1)
+}
+
+/// Does the same for a run of later faces alone, by a test of each box.
 fn list_run(
     sides: &Sides,
     first: usize,
@@ -103,7 +111,8 @@ fn list_run(
     requires few { count ≤ 512 }
     requires later { face < first }
     ensures count { result ≡ length (near_to face swept first (boxes_in sides.now first count)) }
-    ensures pairs { pairs.new ≡ put (near_to face swept first (boxes_in sides.now first count)) pairs.old }
+    ensures pairs { pairs.new
+        ≡ put (near_to face swept first (boxes_in sides.now first count)) pairs.old }
 {
     let mut table = [false; RUN];
     let marks = &mut table[..count];
@@ -116,7 +125,7 @@ fn list_run(
 }
 
 /// Writes as many of a face's pairs with the marked faces of a run as there is room for.
-#[tactic(auto, using(crate::proofs::Marking::put_nowhere, crate::proofs::Marking::sixteen_more, crate::proofs::Marking::those_left, crate::proofs::Marking::two_turns))]
+#[tactic(auto, using(crate::proofs::Marking::strides))]
 fn put_marked(marks: &[bool], first: usize, face: u16, pairs: &mut [Pair])
     requires numbers { first + length marks.now ≤ 4096 }
     ensures { pairs.new ≡ put (marked face first marks.now) pairs.old }
@@ -135,7 +144,7 @@ fn put_marked(marks: &[bool], first: usize, face: u16, pairs: &mut [Pair])
     put_each(&marks[start..], first + start, face, &mut pairs[count..]);
 }
 
-/// The same for the marks of one stride. Answers how many pairs it has written.
+/// Does the same for one stride, and answers how many pairs it has written.
 #[tactic(auto, using(crate::proofs::Marking::none_marked))]
 fn put_stride(marks: &[bool], first: usize, face: u16, pairs: &mut [Pair]) -> usize
     requires numbers { first + length marks.now ≤ 4096 }
@@ -148,7 +157,7 @@ fn put_stride(marks: &[bool], first: usize, face: u16, pairs: &mut [Pair]) -> us
     put_each(marks, first, face, pairs)
 }
 
-/// The same, with a look at each mark.
+/// Does the same, mark by mark.
 #[tactic(auto, using(crate::proofs::Marking::next_marks))]
 fn put_each(marks: &[bool], first: usize, face: u16, pairs: &mut [Pair]) -> usize
     requires numbers { first + length marks.now ≤ 4096 }
@@ -168,7 +177,7 @@ fn put_each(marks: &[bool], first: usize, face: u16, pairs: &mut [Pair]) -> usiz
     count
 }
 
-/// Whether a mark is set. The loop has no branches, as in marking.
+/// Whether a mark is set. This loop too has no branches.
 fn has_mark(marks: &[bool]) -> bool
     ensures { result ≡ list_any (λ m. m) marks.now }
 {

@@ -16,14 +16,14 @@ pub returns-then-end-from-clause-count : goal.returns-then-end-from-clause-count
 returns-then-end-from-clause-count t c =
     let a = c.args in
     let many = length-boxes_in a.sides.now a.first a.count in
-    let e = none_later a.face a.swept a.first (boxes_in a.sides.now a.first a.count) (omega (arith, many, c.max-from.ensures, some_boxes c.requires.tree)) in
+    let e = none_later a.face a.swept a.first (boxes_in a.sides.now a.first a.count) (omega (arith, many, c.first_later-from.ensures, some_boxes c.requires.tree)) in
     sym (ap length e)
 
 pub returns-then-end-from-clause-pairs : goal.returns-then-end-from-clause-pairs
 returns-then-end-from-clause-pairs t c =
     let a = c.args in
     let many = length-boxes_in a.sides.now a.first a.count in
-    let e = none_later a.face a.swept a.first (boxes_in a.sides.now a.first a.count) (omega (arith, many, c.max-from.ensures, some_boxes c.requires.tree)) in
+    let e = none_later a.face a.swept a.first (boxes_in a.sides.now a.first a.count) (omega (arith, many, c.first_later-from.ensures, some_boxes c.requires.tree)) in
     sym (ap (λ (ps : List Pair). put ps a.pairs.now) e)
 
 pub returns-then-not-meets-clause-count : goal.returns-then-not-meets-clause-count
@@ -41,17 +41,17 @@ returns-then-not-meets-clause-pairs t c =
 pub returns-then-count-le-RUN-clause-count : goal.returns-then-count-le-RUN-clause-count
 returns-then-count-le-RUN-clause-count t c =
     let a = c.args in
-    let from = c.max-from.result in
+    let from = c.first_later-from.result in
     let n = a.first + a.count - from in
-    c.list_run.ensures.count ∙ sym (ap length (later_rows a.sides.now a.face a.swept a.first a.count from n (omega (arith, c.max-from.ensures, c.from.ensures)) (omega arith) (omega arith)))
+    c.list_run.ensures.count ∙ sym (ap length (later_rows a.sides.now a.face a.swept a.first a.count from n c.first_later-from.ensures (omega arith) (omega arith)))
 
 pub returns-then-count-le-RUN-clause-pairs : goal.returns-then-count-le-RUN-clause-pairs
 returns-then-count-le-RUN-clause-pairs t c =
     let a = c.args in
-    let from = c.max-from.result in
+    let from = c.first_later-from.result in
     let n = a.first + a.count - from in
     c.list_run.ensures.pairs
-    ∙ sym (ap (λ (ps : List Pair). put ps a.pairs.now) (later_rows a.sides.now a.face a.swept a.first a.count from n (omega (arith, c.max-from.ensures, c.from.ensures)) (omega arith) (omega arith)))
+    ∙ sym (ap (λ (ps : List Pair). put ps a.pairs.now) (later_rows a.sides.now a.face a.swept a.first a.count from n c.first_later-from.ensures (omega arith) (omega arith)))
 
 -- the tree has two places less one for each face, and both halves of the run have trees in it
 pub slice_bounds-list_one-end : goal.slice_bounds-list_one-end
