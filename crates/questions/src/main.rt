@@ -10,6 +10,7 @@ use filters::DELIVERED;
 use inspection::{EeName, Inspection, List, VfName};
 use printout::pair_offerings;
 use sheet::{FACE_LIMIT, Face, Notice, POINT_LIMIT, Point, read_sheet};
+use std::alloc::AllocError;
 use std::process::ExitCode;
 use std::{fs, io};
 use step::lay;
@@ -64,8 +65,8 @@ fn questions_command(rt: &HostRuntime) -> u8 {
             let folder = operands.first().map_or(".", |folder| folder.as_str());
             match ask_in_folder(rt, folder) {
                 Ok(status) => status,
-                Err(reason) => {
-                    tell(rt, folder, reason);
+                Err(stop) => {
+                    stop.told(rt);
                     1
                 }
             }
@@ -74,11 +75,35 @@ fn questions_command(rt: &HostRuntime) -> u8 {
     }
 }
 
+/// What stops the program.
+#[derive(Drop)]
+enum Stop {
+    /// A file cannot be read.
+    File(String, io::Error),
+    Output(io::Error),
+    Memory(AllocError),
+}
+
+impl Stop {
+    /// Tells it, by name and reason.
+    fn told(self, rt: &HostRuntime) {
+        match self {
+            Stop::File(path, reason) => tell(rt, path.as_str(), reason),
+            Stop::Output(reason) => tell(rt, "standard output", reason),
+            Stop::Memory(reason) => tell(rt, "memory", io::Error::from(reason)),
+        }
+    }
+}
+
 /// Asks about the plan in a folder: the exit status.
-fn ask_in_folder(rt: &HostRuntime, folder: &str) -> io::Result<u8> {
+fn ask_in_folder(rt: &HostRuntime, folder: &str) -> Result<u8, Stop> {
     let text = read(rt, folder, "sheet.obj")?;
-    let mut points = vec![in rt.alloc(); Point::default(); POINT_LIMIT as usize]?;
-    let mut faces = vec![in rt.alloc(); Face::default(); FACE_LIMIT as usize]?;
+    let mut points = vec![in rt.alloc(); Point::default(); POINT_LIMIT as usize].map_err(
+        Stop::Memory,
+    )?;
+    let mut faces = vec![in rt.alloc(); Face::default(); FACE_LIMIT as usize].map_err(
+        Stop::Memory,
+    )?;
     let draft = match read_sheet(&text, &mut points, &mut faces) {
         Ok(draft) => draft,
         Err(fault) => return refuse(rt, fault.notice()),
@@ -98,21 +123,24 @@ fn ask_in_folder(rt: &HostRuntime, folder: &str) -> io::Result<u8> {
     let pairs = read(rt, folder, "pairs.bin")?;
     for what in pair_offerings(&pairs) {
         if let Err(fault) = inspection.offer(&points, &faces, &mut vf, &mut ee, what) {
-            println!(rt; "{}", fault.notice())?;
+            println!(rt; "{}", fault.notice()).map_err(Stop::Output)?;
         }
     }
-    ask_about_list(rt, &inspection, &points, &faces, &vf)?;
-    ask_about_list(rt, &inspection, &points, &faces, &ee)?;
+    ask_about_list(rt, &inspection, &points, &faces, &vf).map_err(Stop::Output)?;
+    ask_about_list(rt, &inspection, &points, &faces, &ee).map_err(Stop::Output)?;
     Ok(0)
 }
 
-fn read(rt: &HostRuntime, folder: &str, name: &str) -> io::Result<Vec<u8>> {
-    let path = format!(in rt.alloc(); "{folder}/{name}")?;
-    fs::read(rt, path.as_str())
+fn read(rt: &HostRuntime, folder: &str, name: &str) -> Result<Vec<u8>, Stop> {
+    let path = format!(in rt.alloc(); "{folder}/{name}").map_err(Stop::Memory)?;
+    match fs::read(rt, path.as_str()) {
+        Ok(bytes) => Ok(bytes),
+        Err(reason) => Err(Stop::File(path, reason)),
+    }
 }
 
 /// Tells a fault that ends the run: the exit status.
-fn refuse(rt: &HostRuntime, notice: Notice) -> io::Result<u8> {
-    println!(rt; "{notice}")?;
+fn refuse(rt: &HostRuntime, notice: Notice) -> Result<u8, Stop> {
+    println!(rt; "{notice}").map_err(Stop::Output)?;
     Ok(1)
 }
