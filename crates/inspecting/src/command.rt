@@ -6,7 +6,7 @@ use commands::{About, Given, given};
 use files::tell;
 use plans::inspect_folder;
 
-const USAGE: &str = "inspect START.obj END.obj, or inspect [FOLDER]";
+const USAGE: &str = "inspect START.obj END.obj, or inspect [--refused FILE] [FOLDER]";
 
 const HELP: &str = "\
 usage: inspect START.obj END.obj
@@ -21,7 +21,8 @@ folder, or in the current one:
               (the program `near` finds them)
 
 It prints, and counts points and faces from 0 there,
-  step N points, N moved, N bytes           of two frames: the step between them, or how they differ, which ends the run
+  step N points, N moved, N bytes           of two frames: the step between them
+  the frames have N and N points, or so     of two frames: they are not of one sheet, which ends the run
   near N faces, N pairs                     of two frames: how many pairs of faces lie near each other; all of them are inspected
   fault NUMBER LAYER PLACE PLACE            for each pair that is refused, and what any other fault is, which ends the run
   VF POINT FACE FIRST LAST                  a point and a face that may touch, from part FIRST of the step to part LAST, of four; `- -` for none
@@ -32,10 +33,11 @@ It prints, and counts points and faces from 0 there,
   refused N pairs                           of two frames: so many were
 docs/RULES.md explains the faults by their numbers.
 Of each pair that is not refused, what shares no point and is not printed stays apart for the whole step. After `covered all pairs` that
-holds of every two faces of the sheet.
+holds of every two faces of the sheet; after `refused N pairs` of every two but those pairs, which have a fault line each.
 Of a refused pair nothing is said. Where a list was full (fault 21), make a folder with the first frame as sheet.obj, let `record` make
-its step.bin and `near` its pairs.bin, and inspect it with --refused FILE: then FILE has the refused pairs. Put it in the place of
-pairs.bin and inspect again, and so on, until no pair is refused.
+its step.bin and `near` its pairs.bin, and run `inspect --refused FOLDER/pairs.bin FOLDER` until it prints no fault line: each run
+inspects the pairs that the one before refused. Where there are over a million near pairs (fault 25), inspect them in parts: write
+pairs.bin yourself.
 
 A sheet has at most 2,048 points, 4,096 faces and 65,536 bytes of text, with coordinates from -4096 to 4096.
 Each list has 512 entries, and a million pairs are accepted. Tests are struck at depth 2, in the four parts of the step.

@@ -3,12 +3,13 @@ ghost use Rattle.std.specs.Prelude.{◌≤◌};
 
 use files::{Disk, Failure, Machine, Site, tell};
 use frames::FrameFile;
+use sheet::TEXT_LIMIT;
 use std::alloc::AllocError;
 use std::io;
 use two_frames::{Accounted, FramesEnding, Tables, inspect_frames};
 
 /// One byte more than the longest text that is accepted.
-const TEXT: usize = 65_537;
+const TEXT: usize = TEXT_LIMIT + 1;
 
 /// Bytes for what is printed. A run that prints more is made once more, with as much as it needs.
 const PAGE: usize = 262_144;
@@ -53,34 +54,33 @@ fn inspect_paths(
     let mut tables = Tables::new(rt.alloc()).map_err(no_memory)?;
     let mut first = zeros(rt, TEXT)?;
     let mut second = zeros(rt, TEXT)?;
+    let mut page = zeros(rt, PAGE)?;
     let first_len = disk.fill(FrameFile::Start, start, &mut first)?;
     let first = &first[..first_len];
     // a fault of the first needs no second
-    let (account, page) = account_of(rt, &mut tables, first, b"")?;
+    let account = inspect_frames(&mut tables, first, b"", &mut page);
     if account.ending == FramesEnding::Faulty(FrameFile::Start) {
         return print_account(&mut disk, account, &page);
     }
     let second_len = disk.fill(FrameFile::End, end, &mut second)?;
-    let (account, page) = account_of(rt, &mut tables, first, &second[..second_len])?;
-    print_account(&mut disk, account, &page)
-}
-
-/// The account of two texts, and a page with all of it.
-fn account_of(
-    rt: &HostRuntime,
-    tables: &mut Tables,
-    first: &[u8],
-    second: &[u8],
-) -> Result<(Accounted, Vec<u8>), Failure<FrameFile>> {
-    let mut page = zeros(rt, PAGE)?;
-    let mut account = inspect_frames(tables, first, second, &mut page);
-    if account.printed_len > page.len() {
-        page = zeros(rt, account.printed_len)?;
-        account = inspect_frames(tables, first, second, &mut page);
+    let second = &second[..second_len];
+    let account = inspect_frames(&mut tables, first, second, &mut page);
+    if account.printed_len <= page.len() {
+        return print_account(&mut disk, account, &page);
     }
-    Ok((account, page))
+    match zeros(rt, account.printed_len) {
+        Ok(mut longer) => {
+            let account = inspect_frames(&mut tables, first, second, &mut longer);
+            print_account(&mut disk, account, &longer)
+        }
+        Err(failure) => {
+            print_account(&mut disk, account, &page)?;
+            Err(failure)
+        }
+    }
 }
 
+/// Prints an account, or the front of it that the page has.
 fn print_account(
     disk: &mut Machine<FrameFile>,
     account: Accounted,

@@ -27,8 +27,9 @@ There are places for a million pairs, since no inspection accepts more (fault 25
   --version    prints the number of the program
   --           ends the options
 
-The exit status is 0 where the pairs are stored and 1 where they are not, where the arguments are wrong, and where something
-stops the run, which is told on standard error by its name and the reason. Then pairs.bin is as it was.
+The exit status is 0 where the pairs are stored and their line is printed, and 1 after a fault, where the arguments are wrong, and
+where something stops the run, which is told on standard error by its name and the reason. Then pairs.bin is as it was, unless
+only the line could not be printed.
 ";
 
 const ABOUT: About = About {

@@ -27,33 +27,36 @@ use Rattle.inspection.proofs.Claiming.{claim}
 use Rattle.inspection.proofs.Coordinates.{in_reach}
 use Rattle.near_faces.specs.Boxes.{box_around, corners, swept_box, swept_boxes, meets}
 use Rattle.near_faces.specs.Near.{pair, near_pairs, Near}
-use Rattle.near_faces.specs.Covering.{AllApart, WholeSheetApart, HasAll, Covers}
+use Rattle.near_faces.specs.Covering.{AllApart, WholeSheetApart, HasAll, FarApart, CoversSheet}
 use Rattle.near_faces.proofs.Completing.{complete}
 use Rattle.near_faces.proofs.FarApart.{IsBetween, TestsBetween, struck_between, vf_between, ee_between}
 
--- ---- of the tests of one kind, and what is listed of them
-module _ {E : Type 0} (n : Naming E) (each : ℕ) (s : Sheet) (laws : NamingLaws n each s) (es : List E) where
-  abbrev Stays : E → Type 0
-  Stays e = IsFalse (n.shared s e) → IsFalse (has n.same e es) → Apart (n.shape s e)
-
-  abbrev AllStay : Offering → Type 0
-  AllStay o = All Stays (n.tests s o)
-
-  -- two faces have the same tests in either order
-  alike_stay : (o p : Offering) → SameOffering o p → AllStay p → AllStay o
-  alike_stay o p same all =
-      All-weaker (Contains (n.tests s o)) Stays (λ e c u. All-contains Stays (n.tests s p) e all (alike n each s laws o p same e c u) u) (n.tests s o) (All-contains_itself (n.tests s o))
-
+-- ---- two faces whose boxes do not meet: Box strikes each of their tests
+module _ {E : Type 0} (n : Naming E) (each : ℕ) (s : Sheet) (laws : NamingLaws n each s) (between : TestsBetween n s) (reach : (k : ℕ) → InReach 0 (point_at s k)) where
   abbrev boxes_meet : ℕ → ℕ → Bool
   boxes_meet f g = meets (swept_box s (face_at s f)) (swept_box s (face_at s g))
 
-  module _ (between : TestsBetween n s) (reach : (k : ℕ) → InReach 0 (point_at s k)) where
-    -- two faces whose boxes do not meet: Box strikes each of their tests, whatever was offered
+  far_apart : (f g : ℕ) → boxes_meet f g ≡ false → All (λ e. Apart (n.shape s e)) (n.tests s (Faces f g))
+  far_apart f g h =
+      All-weaker (IsBetween n s f g) (λ e. Apart (n.shape s e))
+      (λ e b. box-lawful.apart (n.shape s e) (laws.valid reach e) (struck_between (corners s (face_at s f)) (corners s (face_at s g)) (n.shape s e) b h))
+      (n.tests s (Faces f g)) (between f g)
+
+  -- ---- what is listed of the tests of one kind
+  module _ (es : List E) where
+    abbrev Stays : E → Type 0
+    Stays e = IsFalse (n.shared s e) → IsFalse (has n.same e es) → Apart (n.shape s e)
+
+    abbrev AllStay : Offering → Type 0
+    AllStay o = All Stays (n.tests s o)
+
+    -- two faces have the same tests in either order
+    alike_stay : (o p : Offering) → SameOffering o p → AllStay p → AllStay o
+    alike_stay o p same all =
+        All-weaker (Contains (n.tests s o)) Stays (λ e c u. All-contains Stays (n.tests s p) e all (alike n each s laws o p same e c u) u) (n.tests s o) (All-contains_itself (n.tests s o))
+
     far : (f g : ℕ) → boxes_meet f g ≡ false → AllStay (Faces f g)
-    far f g h =
-        All-weaker (IsBetween n s f g) Stays
-        (λ e b u l. box-lawful.apart (n.shape s e) (laws.valid reach e) (struck_between (corners s (face_at s f)) (corners s (face_at s g)) (n.shape s e) b h))
-        (n.tests s (Faces f g)) (between f g)
+    far f g h = All-weaker (λ e. Apart (n.shape s e)) Stays (λ e a u l. a) (n.tests s (Faces f g)) (far_apart f g h)
 
     module _ (history : List Accepted) (accepted : All (λ o. AllStay o.what) history) (has_all : HasAll (near_pairs s) history) where
       -- two faces whose boxes meet: they were accepted
@@ -76,17 +79,29 @@ module _ {E : Type 0} (n : Naming E) (each : ℕ) (s : Sheet) (laws : NamingLaws
           ⊎_elim (λ less. in_order f g less hg) (λ le. alike_stay (Faces f g) (Faces g f) (inr (refl, refl)) (in_order g f (omega arith) hf)) (cases_lt f g)
 
 -- ---- of both
-pub whole_sheet : (set : Shape → Bool) (d : Draft) (s : Sheet) → ((k : ℕ) → InReach 0 (point_at s k)) → (history : List Accepted) (core : Core) (vfs : List VfName) (ees : List EeName)
-    → Claim set d s history core vfs ees → HasAll (near_pairs s) history → WholeSheetApart s vfs ees
-whole_sheet set d s reach history core vfs ees c has_all =
-    record {
-      vf = all_apart vf_naming 6 s (vf_laws s) vfs (vf_between s) reach history c.vf.apart has_all;
-      ee = all_apart ee_naming 9 s (ee_laws s) ees (ee_between s) reach history c.ee.apart has_all;
-    }
+module _ (s : Sheet) (reach : (k : ℕ) → InReach 0 (point_at s k)) where
+  far_ones : FarApart s
+  far_ones =
+      record {
+        vf = λ f g hf hg h. far_apart vf_naming 6 s (vf_laws s) (vf_between s) reach f g h;
+        ee = λ f g hf hg h. far_apart ee_naming 9 s (ee_laws s) (ee_between s) reach f g h;
+      }
 
-pub covering : (d : Draft) (ps : List Point) (fs : List Face) → Covers d (sheet_in d ps fs) (near_pairs (sheet_in d ps fs))
-covering d ps fs set law history t run has_all =
+  whole_sheet : (set : Shape → Bool) (d : Draft) (history : List Accepted) (core : Core) (vfs : List VfName) (ees : List EeName) → Claim set d s history core vfs ees → HasAll (near_pairs s) history
+      → WholeSheetApart s vfs ees
+  whole_sheet set d history core vfs ees c has_all =
+      record {
+        vf = all_apart vf_naming 6 s (vf_laws s) (vf_between s) reach vfs history c.vf.apart has_all;
+        ee = all_apart ee_naming 9 s (ee_laws s) (ee_between s) reach ees history c.ee.apart has_all;
+      }
+
+pub covering : (d : Draft) (ps : List Point) (fs : List Face) → CoversSheet d (sheet_in d ps fs) (near_pairs (sheet_in d ps fs))
+covering d ps fs =
     let s = sheet_in d ps fs in
     let points = take d.points ps in
     let reach = λ (k : ℕ). in_reach (get_or points k nowhere) (point_at s k) (get_or-map_default moving_of points k nowhere) in
-    whole_sheet set d s reach history t.core t.vf.entries t.ee.entries (claim law d s history t run) has_all
+    record {
+      runs = λ set law history t run has_all. whole_sheet s reach set d history t.core t.vf.entries t.ee.entries (claim law d s history t run) has_all;
+      claims = λ set history core vfs ees c has_all. whole_sheet s reach set d history core vfs ees c has_all;
+      far = far_ones s reach;
+    }

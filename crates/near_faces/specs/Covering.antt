@@ -5,14 +5,16 @@ use Rattle.motion.specs.declared.shapes.Shape.{Shape}
 use Rattle.motion.specs.Laws.{Lawful, Apart}
 use Rattle.inspection.specs.declared.names.VfName.{VfName}
 use Rattle.inspection.specs.declared.names.EeName.{EeName}
+use Rattle.inspection.specs.Claims.{Claim}
 use Rattle.inspection.specs.Lists.{has}
 use Rattle.inspection.specs.Offerings.{SameOffering}
 use Rattle.inspection.specs.declared.offerings.Offering.TheVariants.{Faces}
 use Rattle.inspection.specs.Runs.{Accepted, Run}
-use Rattle.inspection.specs.Sheets.{Sheet}
-use Rattle.inspection.specs.States.{State}
+use Rattle.inspection.specs.Sheets.{Sheet, face_at}
+use Rattle.inspection.specs.States.{Core, State}
 use Rattle.inspection.specs.Tests.{Naming, vf_naming, ee_naming}
 use Rattle.near_faces.specs.declared.pairs.Pair.{Pair}
+use Rattle.near_faces.specs.Boxes.{meets, swept_box}
 
 -- of every two different faces, near or far, what has no point in common and is not listed stays
 -- apart for the whole step
@@ -31,10 +33,26 @@ abbrev pub HasAll : List Pair → List Accepted → Type 0
 HasAll ps history =
     All (λ p. Any (λ o. SameOffering (Faces p.first p.second) o.what) history) ps
 
--- by whatever lawful set, a run whose accepted offers have all of these pairs leaves no touch of
--- the sheet unlisted
-abbrev pub Covers : Draft → Sheet → List Pair → Type 0
-Covers d s ps =
-    (set : Shape → Bool) → Lawful set → (history : List Accepted) (t : State)
-    → Run set d s history t → HasAll ps history
-    → WholeSheetApart s t.vf.entries t.ee.entries
+-- of every two faces whose boxes do not meet each test stays apart, whatever was offered
+abbrev pub AllFarApart : {E : Type 0} → Naming E → Sheet → Type 0
+AllFarApart n s =
+    (f g : ℕ) → f < length s.faces → g < length s.faces
+    → IsFalse (meets (swept_box s (face_at s f)) (swept_box s (face_at s g)))
+    → All (λ e. Apart (n.shape s e)) (n.tests s (Faces f g))
+
+pub record FarApart (s : Sheet) : Type 0 where
+  pub vf : AllFarApart vf_naming s
+  pub ee : AllFarApart ee_naming s
+
+-- ---- offered all, these pairs cover the sheet
+pub record CoversSheet (d : Draft) (s : Sheet) (ps : List Pair) : Type 0 where
+  -- after every run, by whatever lawful set, whose accepted offers have them
+  pub runs : (set : Shape → Bool) → Lawful set → (history : List Accepted) (t : State)
+      → Run set d s history t → HasAll ps history
+      → WholeSheetApart s t.vf.entries t.ee.entries
+  -- and by whatever claim on such offers
+  pub claims : (set : Shape → Bool) (history : List Accepted) (core : Core)
+      (vfs : List VfName) (ees : List EeName)
+      → Claim set d s history core vfs ees → HasAll ps history → WholeSheetApart s vfs ees
+  -- the other pairs of faces need no offer
+  pub far : FarApart s

@@ -6,7 +6,7 @@ ghost use Rattle.near_faces.specs.Boxes.{at_most, least_of, greatest_of, joined,
 
 use sheet::{Coords, Face, Point};
 
-/// From the least to the greatest coordinates, both included.
+/// From the least to the greatest coordinates, both included, in units of the sheet.
 #[derive(Clone, Copy, Debug, Default, PartialEq, Eq)]
 pub struct SweptBox {
     pub least: Coords,

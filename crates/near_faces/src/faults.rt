@@ -4,13 +4,14 @@ ghost use Rattle.near_faces.specs.Searches.{notice_of_search};
 
 use sheet::{Layer, Notice};
 
+/// Of a search, in the order in which they are looked for.
 #[derive(Clone, Copy, Debug, PartialEq, Eq)]
 pub enum SearchFault {
     /// A table has fewer rows than the sheet.
     TableTooShort,
     /// The face names a point that there is not.
     NoSuchPoint(u16),
-    /// The node table has fewer than 2·faces − 1 places.
+    /// The node table has fewer than 2·faces − 1 places; never for an empty sheet.
     TooFewNodes,
     /// There are more pairs than places for them.
     TooManyPairs,

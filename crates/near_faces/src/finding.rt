@@ -6,7 +6,7 @@ ghost use Rattle.inspection.specs.Sheets.{sheet_in, sheet_of};
 ghost use Rattle.near_faces.specs.Boxes.{swept_boxes};
 ghost use Rattle.near_faces.specs.Near.{near, near_pairs, NearPairs};
 ghost use Rattle.near_faces.specs.Searches.{notice_of_search, search_checks, corner_checks, table_checks, NodesAfter};
-ghost use Rattle.near_faces.specs.Covering.{Covers};
+ghost use Rattle.near_faces.specs.Covering.{CoversSheet};
 
 use crate::boxes::SweptBox;
 use crate::faults::SearchFault;
@@ -20,11 +20,13 @@ use sheet::{Draft, FACE_LIMIT, Face, Point};
 /// their number. `points` and `faces` are the sheet's tables, and may have more rows than it.
 ///
 /// Into the first 2·faces − 1 places of `nodes` goes the tree over the boxes, also where there are
-/// too many pairs. Any other fault leaves that table as it was, and every fault the other.
+/// too many pairs. Any other fault leaves `nodes` as it was, and every fault `pairs`. The faults,
+/// of which the first that fits is answered: a table has fewer rows than the sheet (16); a face
+/// names a point that there is not, the lowest such face (19); there are under 2·faces − 1 nodes,
+/// unless the sheet is empty (24); there are more pairs than places (25).
 ///
-/// Offered all to an inspection, these pairs cover the whole sheet: what shares no point and is on
-/// no list stays apart, near or far.
-#[tactic(auto, using(crate::proofs::Covering::covering))]
+/// Offered all to an inspection, these pairs cover the whole sheet: of every two faces, near or
+/// far, what shares no point and is on no list stays apart.
 pub fn find_near(
     draft: &Draft,
     points: &[Point],
@@ -43,7 +45,7 @@ pub fn find_near(
     ensures near { let boxes = swept_boxes (sheet_in draft.now points.now faces.now) in
         NearPairs boxes (near boxes) }
     ensures covers { let s = sheet_in draft.now points.now faces.now in
-        Covers draft.now s (near_pairs s) }
+        CoversSheet draft.now s (near_pairs s) }
 {
     let (m, n) = (draft.points() as usize, draft.faces() as usize);
     if points.len() < m || faces.len() < n {

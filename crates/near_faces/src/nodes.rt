@@ -8,6 +8,7 @@ use crate::boxes::SweptBox;
 /// halves, first the lower, which at an odd run is the longer.
 #[derive(Clone, Copy, Debug, Default, PartialEq, Eq)]
 pub struct Node {
+    /// The lowest number of the run, and how many there are.
     pub first: u16,
     pub count: u16,
     pub bounds: SweptBox,

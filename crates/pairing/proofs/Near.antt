@@ -8,6 +8,7 @@ use Rattle.sheet.proofs.Sound.{sound}
 use Rattle.sheet.specs.Lines.{numbered}
 use Rattle.sheet.specs.Sheet.{point_limit, face_limit, text_limit, no_rows, room_in, lines_checks}
 use Rattle.sheet.specs.Checks.{first_fit, check}
+use Rattle.sheet.specs.IsSheet.{IsSheet}
 use Rattle.sheet.specs.declared.drafts.Draft.{Draft}
 use Rattle.sheet.specs.declared.notices.Layer.TheVariants.{Search, Sheet as SheetLayer}
 use Rattle.sheet.specs.declared.notices.Notice.{Notice}
@@ -17,7 +18,7 @@ use Rattle.step.proofs.LayAnswers.{length_with_ends}
 use Rattle.inspection.specs.Offers.{lacks_rows}
 use Rattle.inspection.specs.Sheets.{Sheet, sheet_of, sheet_in}
 use Rattle.near_faces.specs.Boxes.{swept_box, swept_boxes}
-use Rattle.near_faces.specs.Covering.{Covers}
+use Rattle.near_faces.specs.Covering.{CoversSheet}
 use Rattle.near_faces.specs.Near.{near_pairs}
 use Rattle.near_faces.specs.Searches.{search_checks, corner_checks, table_checks}
 use Rattle.near_faces.proofs.Completing.{complete}
@@ -55,15 +56,15 @@ module _ (p : Plan) where
       ∙ sym (ap (λ o. unless_faulty o (unless_faulty (search_fault p) (paired (draft p).faces (near_pairs (sheet p))))) h.no_fault)
 
   -- ---- what is stored
-  covered : Covers (draft p) (sheet p) (near_pairs (sheet p))
-  covered = subst (λ s. Covers (draft p) s (near_pairs s)) own_sheet (covering (draft p) (moving_points p) (faces p))
+  pub covered : CoversSheet (draft p) (sheet p) (near_pairs (sheet p))
+  covered = subst (λ s. CoversSheet (draft p) s (near_pairs s)) own_sheet (covering (draft p) (moving_points p) (faces p))
 
-  pub few_faces : sheet_fault p ≡ None → length (faces p) ≤ face_limit
-  few_faces good =
+  pub is_sheet : sheet_fault p ≡ None → IsSheet (resting_points p) (faces p)
+  is_sheet good =
       let long = check (nat_lt text_limit (length p.sheet)) 6 SheetLayer 0 0 in
       let room = room_in point_limit face_limit in
       let lines = lines_checks room no_rows (numbered p.sheet) in
-      (sound room (numbered p.sheet) (resting_points p) (faces p) (lit≤ tt) (lit≤ tt) (sym (no_fit long lines good).1) refl refl).face_count
+      sound room (numbered p.sheet) (resting_points p) (faces p) (lit≤ tt) (lit≤ tt) (sym (no_fit long lines good).1) refl refl
 
   pub sheet_first : (a b : Option Notice) → or_else a b ≡ None → a ≡ None
   sheet_first None b h = refl
@@ -73,7 +74,7 @@ module _ (p : Plan) where
   by_cases None None is =
       let boxes = swept_boxes (sheet p) in
       let near = complete boxes in
-      let few = few_faces (sheet_first (sheet_fault p) (step_fault p) is) in
+      let few = (is_sheet (sheet_first (sheet_fault p) (step_fault p) is)).face_count in
       record {
         pairs = near_pairs (sheet p);
         read = read_back boxes (omega (arith, few, length-map (faces p) (swept_box (sheet p)))) (near_pairs (sheet p)) near.only;

@@ -5,7 +5,7 @@ use Rattle.hosts.specs.Works.{Worked, IsFront}
 use Rattle.hosts.specs.Writing.{BeganTo, writes}
 use Rattle.near_faces.specs.declared.pairs.Pair.{Pair}
 use Rattle.near_faces.specs.Boxes.{swept_boxes}
-use Rattle.near_faces.specs.Covering.{Covers}
+use Rattle.near_faces.specs.Covering.{CoversSheet}
 use Rattle.near_faces.specs.Near.{NearPairs}
 use Rattle.printout.specs.Outcomes.{ReadsPlan}
 use Rattle.printout.specs.PairBytes.{offerings_in}
@@ -16,12 +16,12 @@ use Rattle.pairing.specs.Pairings.{pairing, offering_of, writes_of, needed}
 
 -- ---- what stored pairs are for
 -- these bytes hold all near pairs of the plan's sheet and no others, as `inspect` reads them; offered
--- all, they leave no touch of the sheet unlisted
+-- all, they cover the sheet
 pub record Serves (p : Plan) (bytes : List ℕ) : Type 0 where
   pub pairs : List Pair
   pub read : offerings_in bytes ≡ map offering_of pairs
   pub near : NearPairs (swept_boxes (sheet p)) pairs
-  pub covers : Covers (draft p) (sheet p) pairs
+  pub covers : CoversSheet (draft p) (sheet p) pairs
 
 -- ---- to its end
 pub record EndsAs (p : Plan) (es : List (Event PlanFile)) (end : Ending) : Type 0 where

@@ -11,7 +11,7 @@ use crate::tables::Tables;
 use hosts::{Files, Memory, Page, read_front};
 use printout::{Ending, PlanFile};
 
-/// How the work ends, and how long are its line and the bytes of the pairs.
+/// How the work ends, and how long are its line and the bytes of the pairs, in bytes.
 #[derive(Clone, Copy, Debug, PartialEq, Eq)]
 pub struct Paired {
     pub ending: Ending,
@@ -48,8 +48,9 @@ impl Files for SheetAndStep<'_, '_> {
     }
 }
 
-/// Finds the pairs of faces to inspect in a plan in memory: puts their bytes and the line into the
-/// front of these bytes, as far as they have room, and answers how long they are.
+/// Finds the pairs of faces to inspect in a plan in memory: puts their bytes into the front of
+/// `pairs` and the line into the front of `line`, each as far as it has room, and answers how long
+/// they are. A fault has a line and no pairs.
 pub fn pair_in_memory(
     tables: &mut Tables,
     sheet: &[u8],

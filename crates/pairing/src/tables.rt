@@ -34,6 +34,8 @@ pub struct Tables {
 }
 
 impl Tables {
+    /// Takes eight million bytes, and what the other tables need, or answers that there are not as
+    /// many.
     pub fn new(alloc: Global) -> Result<Tables, AllocError> {
         let pairs = vec![in alloc; Pair::default(); PAIRS]?;
         let bytes = vec![in alloc; 0; 4 * PAIRS]?;

@@ -25,8 +25,9 @@ A frame has at most 2,048 points, 4,096 faces and 65,536 bytes of text, with coo
   --version    prints the number of the program
   --           ends the options
 
-The exit status is 0 where the record is stored and 1 where it is not, where the arguments are wrong, and where something
-stops the run, which is told on standard error by its name and the reason. Then STEP.bin is as it was.
+The exit status is 0 where the record is stored and its line printed, and 1 where not, where the arguments are wrong, and where something
+stops the run, which is told on standard error by its name and the reason. Then STEP.bin is as it was, unless only the line
+could not be printed.
 ";
 
 const ABOUT: About = About {

@@ -1,6 +1,5 @@
 -- A plan that has all near pairs and refuses none covers its whole sheet.
-use Rattle.std.proofs.Common.{◌≡◌, ℕ, Bool, true, false, cond, eqb, eqb-true, List, [], ◌∷◌, length, map, All, Any, None, get_or, refl, sym, ap, ◌∙◌, subst, inl, arith}
-use Rattle.std.proofs.Math.ListN.{get_or-map}
+use Rattle.std.proofs.Common.{◌≡◌, ℕ, Bool, true, false, cond, eqb, eqb-true, List, [], ◌∷◌, length, map, All, Any, None, refl, sym, ap, ◌∙◌, subst, inl, arith}
 use Rattle.std.proofs.lemmas.List.{length-map, nil_from_length}
 use Rattle.std.proofs.lemmas.List.Elements.{All-weaker, All-nil, All-cons, All-head, All-tail}
 use Rattle.motion.specs.Rows.{delivered}
@@ -8,24 +7,21 @@ use Rattle.inspection.specs.declared.offerings.Offering.{Offering}
 use Rattle.inspection.specs.declared.offerings.Offering.TheVariants.{Faces}
 use Rattle.inspection.specs.Offerings.{SameOffering}
 use Rattle.inspection.specs.Runs.{Accepted}
-use Rattle.inspection.specs.Sheets.{moving_of, nowhere, point_at}
-use Rattle.inspection.proofs.Coordinates.{in_reach}
 use Rattle.near_faces.specs.declared.pairs.Pair.{Pair}
 use Rattle.near_faces.specs.Boxes.{swept_box, swept_boxes}
 use Rattle.near_faces.specs.Covering.{WholeSheetApart}
 use Rattle.near_faces.specs.Near.{near_pairs}
 use Rattle.near_faces.proofs.Completing.{complete}
-use Rattle.near_faces.proofs.Covering.{whole_sheet}
 use Rattle.printout.specs.PairBytes.{offerings_in}
-use Rattle.printout.specs.Plans.{Plan, draft, faces, fault, sheet_fault, step_fault, moving_points, sheet, walk, ClaimOfPlan}
+use Rattle.printout.specs.Plans.{Plan, draft, faces, fault, sheet_fault, step_fault, sheet, walk, ClaimOfPlan}
 use Rattle.printout.specs.Walks.{just_opened}
 use Rattle.two_frames.proofs.Accepting.{HasAccepted, all_accepted}
-use Rattle.two_frames.specs.Accounts.{paired_plan, refused_count, ending_by, ClaimsOfSheet}
+use Rattle.two_frames.specs.Accounts.{paired_plan, refused_count, ending_by, ClaimsOver}
 use Rattle.two_frames.specs.declared.endings.FramesEnding.{FramesEnding}
 use Rattle.two_frames.specs.declared.endings.FramesEnding.TheVariants.{Covered, Refused}
 use Rattle.two_frames.proofs.Paired.{IsPaired}
 use Rattle.pairing.specs.Pairings.{offering_of, pairing, pairs_bytes}
-use Rattle.pairing.proofs.Near.{few_faces, sheet_first}
+use Rattle.pairing.proofs.Near.{is_sheet, sheet_first, covered as covers}
 use Rattle.pairing.proofs.PairBytes.{read_back}
 use Rattle.printout.specs.Memory.{plan}
 
@@ -44,7 +40,7 @@ module _ (p : Plan) (good : fault p ≡ None) (all_near : p.pairs ≡ pairs_byte
 
   offered : offerings_in p.pairs ≡ map offering_of near_ones
   offered =
-      let few = few_faces p (sheet_first p (sheet_fault p) (step_fault p) good) in
+      let few = (is_sheet p (sheet_first p (sheet_fault p) (step_fault p) good)).face_count in
       ap offerings_in all_near ∙ read_back (swept_boxes (sheet p)) (omega (arith, few, length-map (faces p) (swept_box (sheet p)))) near_ones (complete (swept_boxes (sheet p))).only
 
   pub covered : ClaimOfPlan p → length (walk p).refused ≡ 0 → let found = (walk p).found in WholeSheetApart (sheet p) found.vf found.ee
@@ -52,17 +48,18 @@ module _ (p : Plan) (good : fault p ≡ None) (all_near : p.pairs ≡ pairs_byte
       let w = walk p in
       let no_refusal = nil_from_length w.refused none in
       let accepted : All (HasAccepted w) (map offering_of near_ones) = subst (λ (os : List Offering). All (HasAccepted w) os) offered (all_accepted delivered (sheet p) (just_opened (draft p)) (offerings_in p.pairs) no_refusal) in
-      let points = moving_points p in
-      let reach = λ (k : ℕ). in_reach (get_or points k nowhere) (point_at (sheet p) k) (get_or-map moving_of points k nowhere) in
-      whole_sheet delivered (draft p) (sheet p) reach w.accepted w.found.core w.found.vf w.found.ee (claim good)
+      (covers p).claims delivered w.accepted w.found.core w.found.vf w.found.ee (claim good)
       (All-weaker (λ q. HasAccepted w (offering_of q)) (λ q. Any (λ (o : Accepted). SameOffering (offering_of q) o.what) w.accepted)
       (λ q (k, a, here, is, same). (k, a, here, is, subst (SameOffering (offering_of q)) (sym same) (same_itself (offering_of q)))) near_ones (each_pair (HasAccepted w) near_ones accepted))
 
 -- ---- what a run may claim by how many pairs are refused
 module _ (text bytes : List ℕ) (is : IsPaired (plan text bytes []) (pairing text bytes)) (claim : ClaimOfPlan (paired_plan text bytes)) where
-  by_test : (n : ℕ) (t : Bool) → eqb n 0 ≡ t → refused_count (paired_plan text bytes) ≡ n → ClaimsOfSheet text bytes (cond t Covered (Refused n))
-  by_test n true none is_n = (covered (paired_plan text bytes) is.no_fault is.stored claim (is_n ∙ eqb-true n 0 none), claim)
-  by_test n false some is_n = claim
+  abbrev p : Plan
+  p = paired_plan text bytes
 
-  pub claims_so : (e : FramesEnding) → e ≡ ending_by (refused_count (paired_plan text bytes)) → ClaimsOfSheet text bytes e
-  claims_so e is_e = subst (ClaimsOfSheet text bytes) (sym is_e) (let n = refused_count (paired_plan text bytes) in by_test n (eqb n 0) refl refl)
+  by_test : (n : ℕ) (t : Bool) → eqb n 0 ≡ t → refused_count p ≡ n → ClaimsOver (sheet p) p (cond t Covered (Refused n))
+  by_test n true none is_n = (refl, covered p is.no_fault is.stored claim (is_n ∙ eqb-true n 0 none), claim)
+  by_test n false some is_n = (refl, (covers p).far, claim)
+
+  pub claims_so : (e : FramesEnding) → e ≡ ending_by (refused_count p) → ClaimsOver (sheet p) p e
+  claims_so e is_e = subst (ClaimsOver (sheet p) p) (sym is_e) (let n = refused_count p in by_test n (eqb n 0) refl refl)

@@ -1,7 +1,7 @@
 -- What comes of two frames: what `record`, `near` and `inspect` give, one after the other, and a last line.
-use Rattle.std.specs.Prelude.{◌≡◌, ℕ, if◌then◌else◌, ◌==◌, List, [], ◌++◌, length, codes, decimal, unwrap_or, IfSome}
-use Rattle.inspection.specs.Sheets.{sheet_of}
-use Rattle.near_faces.specs.Covering.{WholeSheetApart}
+use Rattle.std.specs.Prelude.{◌≡◌, ℕ, if◌then◌else◌, ◌==◌, List, [], ◌++◌, length, codes, decimal, unwrap_or}
+use Rattle.inspection.specs.Sheets.{Sheet, sheet_of}
+use Rattle.near_faces.specs.Covering.{FarApart, WholeSheetApart}
 use Rattle.frames.specs.Frames.{Frames, faces_of, step_between}
 use Rattle.frames.specs.Outcomes.{outcome, with_line_feed}
 use Rattle.frames.specs.declared.frame_files.Recording.{Recording}
@@ -65,20 +65,22 @@ account f =
     let o = outcome f in
     after_recording (with_line_feed o.line) o.answer (searched f.start (record_between f))
 
--- ---- what may be claimed, of a sheet and its step
+-- ---- what may be claimed of a sheet, by a plan of it with its near pairs
 -- where no pair is refused, of every two different faces: whatever shares no point and is not listed
--- stays apart for the whole step; where some are, of the pairs that are not
-abbrev pub ClaimsOfSheet : List ℕ → List ℕ → FramesEnding → Type 0
-ClaimsOfSheet text bytes ending.Covered =
-    let p = paired_plan text bytes in
-    let found = (walk p).found in WholeSheetApart (sheet p) found.vf found.ee × ClaimOfPlan p
-ClaimsOfSheet text bytes (ending.Refused n) = ClaimOfPlan (paired_plan text bytes)
-ClaimsOfSheet text bytes e = Unit {0}
+-- stays apart for the whole step; where some are, of the other pairs, near and far
+abbrev pub ClaimsOver : Sheet → Plan → FramesEnding → Type 0
+ClaimsOver s p ending.Covered =
+    let found = (walk p).found in
+    (sheet p ≡ s) × WholeSheetApart s found.vf found.ee × ClaimOfPlan p
+ClaimsOver s p (ending.Refused n) = (sheet p ≡ s) × FarApart s × ClaimOfPlan p
+ClaimsOver s p e = Unit {0}
 
--- of two frames: the sheet moves from the first to the second
-abbrev pub IsBetween : Frames → Plan → Type 0
-IsBetween f p = sheet p ≡ sheet_of (step_between f) (faces_of f.start)
+abbrev pub ClaimsOfPlan : Plan → FramesEnding → Type 0
+ClaimsOfPlan p e = ClaimsOver (sheet p) p e
 
-pub record Claims (f : Frames) (e : FramesEnding) : Type 0 where
-  pub between : IfSome (outcome f).record_stored (λ bytes. IsBetween f (paired_plan f.start bytes))
-  pub sheet : ClaimsOfSheet f.start (record_between f) e
+-- the sheet that moves from the first frame to the second
+abbrev pub sheet_between : Frames → Sheet
+sheet_between f = sheet_of (step_between f) (faces_of f.start)
+
+abbrev pub Claims : Frames → FramesEnding → Type 0
+Claims f e = ClaimsOver (sheet_between f) (paired_plan f.start (record_between f)) e

@@ -6,7 +6,7 @@ ghost use Rattle.pairing.specs.Pairings.{pair_room};
 ghost use Rattle.frames.specs.Frames.{frames};
 ghost use Rattle.printout.specs.Memory.{plan};
 ghost use Rattle.printout.specs.Plans.{fault, ClaimOfPlan};
-ghost use Rattle.two_frames.specs.Accounts.{account, searched, inspected, last_line, ending_by, Claims, ClaimsOfSheet};
+ghost use Rattle.two_frames.specs.Accounts.{account, searched, inspected, last_line, ending_by, paired_plan, Claims, ClaimsOfPlan};
 
 use crate::endings::FramesEnding;
 use crate::lines::last_line;
@@ -16,7 +16,7 @@ use hosts::copy_front;
 use pairing::pair_in_memory;
 use printout::{Ending, inspect_bytes};
 
-/// How a run ends, and how long is what it prints.
+/// How a run ends, and how long is what it prints, in bytes.
 #[derive(Clone, Copy, Debug, PartialEq, Eq)]
 pub struct Accounted {
     pub ending: FramesEnding,
@@ -76,7 +76,7 @@ fn inspect_sheet(
     ensures page { page.new ≡ onto_page (searched sheet.now step.now).text page.old }
     ensures printed_len { result.printed_len
         ≡ min (length (searched sheet.now step.now).text) (2 ^ 64 - 1) }
-    ensures claims { ClaimsOfSheet sheet.now step.now result.ending }
+    ensures claims { ClaimsOfPlan (paired_plan sheet.now step.now) result.ending }
 {
     let paired = pair_in_memory(pairing, sheet, step, pairs, page);
     let line_len = paired.line_len;

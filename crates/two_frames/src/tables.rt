@@ -3,10 +3,11 @@ ghost use Rattle.std.specs.Prelude.{◌≡◌, ◌*◌, length};
 ghost use Rattle.step.specs.Limit.{record_limit};
 ghost use Rattle.pairing.specs.Pairings.{pair_room};
 
+use sheet::POINT_LIMIT;
 use std::alloc::{AllocError, Global};
 
 /// The length of the longest record.
-const RECORD: usize = 14_336;
+const RECORD: usize = 7 * POINT_LIMIT as usize;
 
 /// Bytes of as many pairs as an inspection accepts.
 const PAIR_BYTES: usize = 4_000_000;
@@ -24,6 +25,7 @@ pub struct Tables {
 }
 
 impl Tables {
+    /// Takes some 12 million bytes, or answers that there are not as many.
     pub fn new(alloc: Global) -> Result<Tables, AllocError> {
         Ok(Tables {
             frames: frames::Tables::new(),

@@ -8,13 +8,23 @@ use Rattle.inspection.specs.Sheets.{sheet_of, sheet_in}
 use Rattle.near_faces.specs.Boxes.{swept_boxes}
 use Rattle.near_faces.specs.Near.{near}
 use Rattle.near_faces.proofs.Completing.{complete}
+use Rattle.near_faces.proofs.Covering.{covering}
 use Rattle.near_faces.proofs.finding.find_near.Goals as goal
+
+pub returns-then-points-m-clause-covers : goal.returns-then-points-m-clause-covers
+returns-then-points-m-clause-covers c = covering c.args.draft.now c.args.points.now c.args.faces.now
 
 pub returns-then-points-m-clause-near : goal.returns-then-points-m-clause-near
 returns-then-points-m-clause-near c = complete _
 
+pub returns-in_err-sweep-clause-covers : goal.returns-in_err-sweep-clause-covers
+returns-in_err-sweep-clause-covers c = covering c.args.draft.now c.args.points.now c.args.faces.now
+
 pub returns-in_err-sweep-clause-near : goal.returns-in_err-sweep-clause-near
 returns-in_err-sweep-clause-near c = complete _
+
+pub returns-clause-covers : goal.returns-clause-covers
+returns-clause-covers c = covering c.args.draft.now c.args.points.now c.args.faces.now
 
 pub returns-clause-near : goal.returns-clause-near
 returns-clause-near c = complete _

@@ -3,9 +3,11 @@ use Rattle.hosts.specs.Pages.{onto_page}
 use Rattle.frames.specs.Frames.{Frames, frames}
 use Rattle.frames.specs.Outcomes.{outcome, with_line_feed}
 use Rattle.frames.specs.declared.frame_files.Recording.{Recording}
-use Rattle.two_frames.specs.Accounts.{after_recording, searched, record_between, ClaimsOfSheet}
+use Rattle.two_frames.specs.Accounts.{after_recording, searched, paired_plan, record_between, sheet_between, ClaimsOver}
+use Rattle.inspection.specs.Sheets.{Sheet}
+use Rattle.printout.specs.Plans.{sheet}
 use Rattle.two_frames.proofs.Behind.{written_behind, len_behind, front_back}
-use Rattle.two_frames.proofs.Between.{between, record_fits}
+use Rattle.two_frames.proofs.Between.{same_sheet, record_fits}
 use Rattle.two_frames.proofs.runs.inspect_frames.Goals as goal
 
 -- the record that was put into a table with room for it is read from its front
@@ -60,9 +62,8 @@ pub returns-in-Recorded-clause-claims : goal.returns-in-Recorded-clause-claims
 returns-in-Recorded-clause-claims c =
     let f = frames c.args.start.now c.args.end.now in
     let r = c.record_frames-recorded.ensures in
-    let b = back f _ _ _ (record_fits f (sym r.answer ∙ c.in-Recorded.is)) (search rules) r.record_len r.record_bytes in
-    record {
-      between = between f;
-      sheet = subst (ClaimsOfSheet f.start (record_between f)) (sym c.behind.ensures.ending)
-          (subst (λ (bs : List ℕ). ClaimsOfSheet f.start bs c.inspect_sheet-rest.result.ending) b c.inspect_sheet-rest.ensures.claims);
-    }
+    let is = sym r.answer ∙ c.in-Recorded.is in
+    let b = back f _ _ _ (record_fits f is) (search rules) r.record_len r.record_bytes in
+    let here = subst (λ (bs : List ℕ). let p = paired_plan f.start bs in ClaimsOver (sheet p) p c.inspect_sheet-rest.result.ending) b c.inspect_sheet-rest.ensures.claims in
+    let p = paired_plan f.start (record_between f) in
+    subst (ClaimsOver (sheet_between f) p) (sym c.behind.ensures.ending) (subst (λ (s : Sheet). ClaimsOver s p c.inspect_sheet-rest.result.ending) (same_sheet f is) here)
