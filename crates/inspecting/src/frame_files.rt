@@ -1,5 +1,8 @@
 // An inspection of two frames by the system.
-ghost use Rattle.std.specs.Prelude.{◌≤◌};
+ghost use Rattle.std.specs.Prelude.{◌≡◌, ◌≤◌, IfOk, length, take};
+ghost use Rattle.frames.specs.Frames.{frames};
+ghost use Rattle.two_frames.specs.Accounts.{account};
+ghost use Rattle.inspecting.specs.Statuses.{status_after};
 
 use files::{Disk, Failure, Machine, Site, tell};
 use frames::FrameFile;
@@ -19,17 +22,26 @@ const PAGE: usize = 262_144;
 pub(crate) fn inspect_files(rt: &HostRuntime, start: &str, end: &str) -> u8
     ensures { result ≤ 1 }
 {
-    match inspect_paths(rt, start, end) {
-        Ok(FramesEnding::Covered | FramesEnding::Refused(_)) => 0,
+    let run = inspect_paths(rt, start, end);
+    let status = status(&run);
+    match run {
         Ok(FramesEnding::Faulty(file)) => {
             tell(rt, name_of(Site::File(file), start, end), "it has a fault");
-            1
         }
-        Ok(FramesEnding::Unsearched | FramesEnding::Different) => 1,
-        Err(failure) => {
-            tell(rt, name_of(failure.site, start, end), failure.reason);
-            1
-        }
+        Ok(_) => {}
+        Err(failure) => tell(rt, name_of(failure.site, start, end), failure.reason),
+    }
+    status
+}
+
+/// The exit status after a run.
+fn status<E>(run: &Result<FramesEnding, E>) -> u8
+    ensures { result ≡ status_after run.now }
+{
+    match run {
+        Ok(FramesEnding::Covered | FramesEnding::Refused(_)) => 0,
+        Ok(FramesEnding::Unsearched | FramesEnding::Faulty(_) | FramesEnding::Different) | Err(_) =>
+            1,
     }
 }
 
@@ -64,19 +76,40 @@ fn inspect_paths(
     }
     let second_len = disk.fill(FrameFile::End, end, &mut second)?;
     let second = &second[..second_len];
-    let account = inspect_frames(&mut tables, first, second, &mut page);
-    if account.printed_len <= page.len() {
-        return print_account(&mut disk, account, &page);
-    }
-    match zeros(rt, account.printed_len) {
-        Ok(mut longer) => {
-            let account = inspect_frames(&mut tables, first, second, &mut longer);
-            print_account(&mut disk, account, &longer)
-        }
-        Err(failure) => {
+    match account_of(rt, &mut tables, first, second, page) {
+        Ok((account, page)) => print_account(&mut disk, account, &page),
+        Err((account, page, failure)) => {
             print_account(&mut disk, account, &page)?;
             Err(failure)
         }
+    }
+}
+
+/// The account of two texts and a page with all of it: this one, or where it is too short a longer
+/// one. Where there is no memory for that, the front of it stands on this one.
+fn account_of(
+    rt: &HostRuntime,
+    tables: &mut Tables,
+    first: &[u8],
+    second: &[u8],
+    page: Vec<u8>,
+) -> Result<(Accounted, Vec<u8>), (Accounted, Vec<u8>, Failure<FrameFile>)>
+    ensures ending { IfOk result (λ (a, page).
+        a.ending ≡ (account (frames first.now second.now)).ending) }
+    ensures whole { IfOk result (λ (a, page).
+        take a.printed_len page.items ≡ (account (frames first.now second.now)).text) }
+{
+    let mut page = page;
+    let account = inspect_frames(tables, first, second, &mut page);
+    if account.printed_len <= page.len() {
+        return Ok((account, page));
+    }
+    match zeros(rt, account.printed_len) {
+        Ok(mut longer) => {
+            let account = inspect_frames(tables, first, second, &mut longer);
+            Ok((account, longer))
+        }
+        Err(failure) => Err((account, page, failure)),
     }
 }
 
@@ -91,7 +124,9 @@ fn print_account(
     Ok(account.ending)
 }
 
-fn zeros(rt: &HostRuntime, len: usize) -> Result<Vec<u8>, Failure<FrameFile>> {
+fn zeros(rt: &HostRuntime, len: usize) -> Result<Vec<u8>, Failure<FrameFile>>
+    ensures { IfOk result (λ v. length v.items ≡ len) }
+{
     vec![in rt.alloc(); 0; len].map_err(no_memory)
 }
 
