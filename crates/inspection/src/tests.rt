@@ -53,6 +53,8 @@ impl TestName for VfName {
         self.point == a || self.point == b || self.point == c
     }
 
+    // an offer makes up to fifteen of them: here, where they are used, they need no copy
+    #[inline(always)]
     fn test(self, rows: Rows<'_>) -> Test {
         let face = rows.face(self.face);
         let p = rows.point(self.point);
@@ -82,6 +84,7 @@ impl TestName for EeName {
         self.u == self.k || self.u == self.l || self.v == self.k || self.v == self.l
     }
 
+    #[inline(always)]
     fn test(self, rows: Rows<'_>) -> Test {
         let u = rows.point(self.u);
         let v = rows.point(self.v);
