@@ -17,6 +17,7 @@ const RUN: usize = 512;
 const STRIDE: usize = 16;
 
 /// Two different faces, the lower number first.
+#[repr(C)]
 #[derive(Clone, Copy, Debug, Default, PartialEq, Eq)]
 pub struct Pair {
     pub first: u16,

@@ -11,6 +11,7 @@ pub const POINT_LIMIT: u16 = 2048;
 /// A sheet has at most 4,096 faces.
 pub const FACE_LIMIT: u16 = 4096;
 
+#[repr(C)]
 #[derive(Clone, Copy, Debug, Default, PartialEq, Eq)]
 pub struct Coords {
     pub x: i16,
@@ -19,6 +20,7 @@ pub struct Coords {
 }
 
 /// A point of the film at the start and at the end of the step.
+#[repr(C)]
 #[derive(Clone, Copy, Debug, Default, PartialEq, Eq)]
 pub struct Point {
     pub start: Coords,
@@ -26,6 +28,7 @@ pub struct Point {
 }
 
 /// A triangle, by the numbers of its corners, from 0.
+#[repr(C)]
 #[derive(Clone, Copy, Debug, Default, PartialEq, Eq)]
 pub struct Face {
     pub a: u16,
