@@ -6,6 +6,8 @@ ghost use Rattle.inspecting.specs.Statuses.{status_after};
 
 use files::{Disk, Failure, Machine, Site, tell};
 use frames::FrameFile;
+use near_faces::Pair;
+use pairing::{PAIR_BYTES, PAIRS};
 use sheet::TEXT_LIMIT;
 use std::alloc::AllocError;
 use std::io;
@@ -63,20 +65,26 @@ fn inspect_paths(
     end: &str,
 ) -> Result<FramesEnding, Failure<FrameFile>> {
     let mut disk = Machine::new(*rt, None)?;
-    let mut tables = Tables::new(rt.alloc()).map_err(no_memory)?;
+    let mut tables = Tables::new();
+    let mut pairs = rows(rt, Pair::default(), PAIRS)?;
+    let pairs = whole(&mut pairs);
+    let mut bytes = zeros(rt, PAIR_BYTES)?;
+    let bytes = whole(&mut bytes);
+    let mut found = zeros(rt, PAIR_BYTES)?;
+    let found = whole(&mut found);
     let mut first = zeros(rt, TEXT)?;
     let mut second = zeros(rt, TEXT)?;
     let mut page = zeros(rt, PAGE)?;
     let first_len = disk.fill(FrameFile::Start, start, &mut first)?;
     let first = &first[..first_len];
     // a fault of the first needs no second
-    let account = inspect_frames(&mut tables, first, b"", &mut page);
+    let account = inspect_frames(&mut tables, pairs, bytes, found, first, b"", &mut page);
     if account.ending == FramesEnding::Faulty(FrameFile::Start) {
         return print_account(&mut disk, account, &page);
     }
     let second_len = disk.fill(FrameFile::End, end, &mut second)?;
     let second = &second[..second_len];
-    match account_of(rt, &mut tables, first, second, page) {
+    match account_of(rt, &mut tables, pairs, bytes, found, first, second, page) {
         Ok((account, page)) => print_account(&mut disk, account, &page),
         Err((account, page, failure)) => {
             print_account(&mut disk, account, &page)?;
@@ -90,6 +98,9 @@ fn inspect_paths(
 fn account_of(
     rt: &HostRuntime,
     tables: &mut Tables,
+    pairs: &mut [Pair; PAIRS],
+    bytes: &mut [u8; PAIR_BYTES],
+    found: &mut [u8; PAIR_BYTES],
     first: &[u8],
     second: &[u8],
     page: Vec<u8>,
@@ -100,13 +111,13 @@ fn account_of(
         take a.printed_len page.items ≡ (account (frames first.now second.now)).text) }
 {
     let mut page = page;
-    let account = inspect_frames(tables, first, second, &mut page);
+    let account = inspect_frames(tables, pairs, bytes, found, first, second, &mut page);
     if account.printed_len <= page.len() {
         return Ok((account, page));
     }
     match zeros(rt, account.printed_len) {
         Ok(mut longer) => {
-            let account = inspect_frames(tables, first, second, &mut longer);
+            let account = inspect_frames(tables, pairs, bytes, found, first, second, &mut longer);
             Ok((account, longer))
         }
         Err(failure) => Err((account, page, failure)),
@@ -127,7 +138,24 @@ fn print_account(
 fn zeros(rt: &HostRuntime, len: usize) -> Result<Vec<u8>, Failure<FrameFile>>
     ensures { IfOk result (λ v. length v.items ≡ len) }
 {
-    vec![in rt.alloc(); 0; len].map_err(no_memory)
+    rows(rt, 0, len)
+}
+
+/// So many rows.
+fn rows<T: Copy>(rt: &HostRuntime, row: T, len: usize) -> Result<Vec<T>, Failure<FrameFile>>
+    ensures { IfOk result (λ v. length v.items ≡ len) }
+{
+    vec![in rt.alloc(); row; len].map_err(no_memory)
+}
+
+/// A table that is just so long.
+fn whole<T, const N: usize>(table: &mut [T]) -> &mut [T; N]
+    requires { length table.old ≡ N }
+{
+    let Some(table) = table.as_mut_array() else {
+        unreachable!()
+    };
+    table
 }
 
 fn no_memory(e: AllocError) -> Failure<FrameFile> {

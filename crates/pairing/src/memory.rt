@@ -7,8 +7,9 @@ ghost use Rattle.pairing.specs.Works.{Serves};
 ghost use Rattle.pairing.specs.Memory.{plan_left};
 
 use crate::plans::pair_plan;
-use crate::tables::Tables;
+use crate::tables::{PAIR_BYTES, PAIRS, Tables};
 use hosts::{Files, Memory, Page, read_front};
+use near_faces::Pair;
 use printout::{Ending, PlanFile};
 
 /// How the work ends, and how long are its line and the bytes of the pairs, in bytes.
@@ -53,6 +54,8 @@ impl Files for SheetAndStep<'_, '_> {
 /// they are. A fault has a line and no pairs.
 pub fn pair_in_memory(
     tables: &mut Tables,
+    table: &mut [Pair; PAIRS],
+    bytes: &mut [u8; PAIR_BYTES],
     sheet: &[u8],
     step: &[u8],
     pairs: &mut [u8],
@@ -78,7 +81,7 @@ pub fn pair_in_memory(
         printed: &mut line,
         stored: &mut kept,
     };
-    let ending = pair_in(tables, &mut memory);
+    let ending = pair_in(tables, table, bytes, &mut memory);
     Paired {
         ending,
         line_len: line.len(),
@@ -88,7 +91,12 @@ pub fn pair_in_memory(
 
 /// Finds the pairs of a plan that is still to be read.
 #[tactic(auto, using(crate::proofs::InMemory::ended, crate::proofs::InMemory::same_line, crate::proofs::InMemory::same_kept))]
-fn pair_in(tables: &mut Tables, memory: &mut Memory<'_, '_, '_, '_, SheetAndStep<'_, '_>>) -> Ending
+fn pair_in(
+    tables: &mut Tables,
+    table: &mut [Pair; PAIRS],
+    bytes: &mut [u8; PAIR_BYTES],
+    memory: &mut Memory<'_, '_, '_, '_, SheetAndStep<'_, '_>>,
+) -> Ending
     ensures ending { let p = plan_left memory.old.files in
         result ≡ (pairing p.sheet p.step).ending }
     ensures line { let p = plan_left memory.old.files in
@@ -101,7 +109,7 @@ fn pair_in(tables: &mut Tables, memory: &mut Memory<'_, '_, '_, '_, SheetAndStep
     ensures same_line { memory.new.printed.ghost_name ≡ memory.old.printed.ghost_name }
     ensures same_kept { memory.new.stored.ghost_name ≡ memory.old.stored.ghost_name }
 {
-    match pair_plan(tables, memory) {
+    match pair_plan(tables, table, bytes, memory) {
         Ok(ending) => ending,
         Err(never) => match never {},
     }

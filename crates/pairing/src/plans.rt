@@ -3,17 +3,20 @@ ghost use Rattle.pairing.specs.Works.{FindsPairs};
 
 use crate::finding::pair_sheet;
 use crate::reading::read_plan;
-use crate::tables::Tables;
+use crate::tables::{PAIR_BYTES, PAIRS, Tables};
 use crate::telling::tell_fault;
 use hosts::Host;
+use near_faces::Pair;
 use printout::{Ending, PlanFile};
 
 /// Finds the pairs of faces to inspect in a plan: reads its sheet and its step, stores the bytes of
 /// all near pairs, and prints the line that tells how many there are. Where there is a fault, it prints
-/// the fault's line and stores nothing.
+/// the fault's line and stores nothing. The lent tables are worked in; what they hold does not matter.
 #[tactic(auto, using(crate::proofs::Runs::unread, crate::proofs::Runs::faulty, crate::proofs::Runs::searched))]
 pub fn pair_plan<H: Host<File = PlanFile>>(
     tables: &mut Tables,
+    pairs: &mut [Pair; PAIRS],
+    bytes: &mut [u8; PAIR_BYTES],
     host: &mut H,
 ) -> Result<Ending, H::Error>
     ensures { FindsPairs H.does H.fails host.old result host.new }
@@ -24,19 +27,9 @@ pub fn pair_plan<H: Host<File = PlanFile>>(
         points,
         faces,
         nodes,
-        pairs,
-        bytes,
     } = tables;
     match read_plan(text, step, points, faces, host)? {
-        Ok(draft) => pair_sheet(
-            &draft,
-            points,
-            faces,
-            nodes,
-            pairs.as_mut_slice(),
-            bytes.as_mut_slice(),
-            host,
-        ),
+        Ok(draft) => pair_sheet(&draft, points, faces, nodes, pairs, bytes, host),
         Err(notice) => tell_fault(notice, host),
     }
 }

@@ -1,11 +1,13 @@
 // A search for pairs by the system.
-ghost use Rattle.std.specs.Prelude.{◌≤◌};
+ghost use Rattle.std.specs.Prelude.{◌≡◌, ◌≤◌, length, IfOk};
 
 use crate::paths::Paths;
 use crate::runs::pair_on_disk;
 use files::{Machine, OnDisk, site_name, tell};
-use pairing::Tables;
+use near_faces::Pair;
+use pairing::{PAIR_BYTES, PAIRS, Tables};
 use plans::status;
+use std::alloc::{AllocError, Global};
 
 /// Finds the pairs of the plan in a folder and stores them there: the exit status. What stops the run
 /// is told.
@@ -13,10 +15,15 @@ pub fn pair_folder(rt: &HostRuntime, folder: &str) -> u8
     ensures { result ≤ 1 }
 {
     let alloc = rt.alloc();
-    let (Ok(paths), Ok(mut tables)) = (Paths::in_folder(alloc, folder), Tables::new(alloc)) else {
+    let (Ok(paths), Ok(mut pairs), Ok(mut bytes)) = (
+        Paths::in_folder(alloc, folder),
+        table(alloc, Pair::default(), PAIRS),
+        table(alloc, 0, PAIR_BYTES),
+    ) else {
         tell(rt, "memory", "out of memory");
         return 1;
     };
+    let mut tables = Tables::new();
     let disk = match Machine::new(*rt, None) {
         Ok(disk) => disk,
         Err(failure) => {
@@ -25,9 +32,26 @@ pub fn pair_folder(rt: &HostRuntime, folder: &str) -> u8
         }
     };
     let mut plan = OnDisk { disk, paths };
-    let run = pair_on_disk(&mut tables, &mut plan);
+    let run = pair_on_disk(&mut tables, whole(&mut pairs), whole(&mut bytes), &mut plan);
     if let Err(failure) = &run {
         tell(rt, site_name(&plan.paths, failure.site), failure.reason);
     }
     status(&run)
+}
+
+/// So many rows.
+fn table<T: Copy>(alloc: Global, row: T, len: usize) -> Result<Vec<T>, AllocError>
+    ensures { IfOk result (λ v. length v.items ≡ len) }
+{
+    vec![in alloc; row; len]
+}
+
+/// A table that is just so long.
+fn whole<T, const N: usize>(table: &mut [T]) -> &mut [T; N]
+    requires { length table.old ≡ N }
+{
+    let Some(table) = table.as_mut_array() else {
+        unreachable!()
+    };
+    table
 }

@@ -3,7 +3,8 @@ ghost use Rattle.pairings.specs.Runs.{PairsFolder};
 
 use crate::paths::Paths;
 use files::{Disk, OnDisk};
-use pairing::{Tables, pair_plan};
+use near_faces::Pair;
+use pairing::{PAIR_BYTES, PAIRS, Tables, pair_plan};
 use printout::{Ending, PlanFile};
 
 /// Finds the pairs of the plan whose files are placed on a disk. Pairs that were stored are kept
@@ -11,10 +12,12 @@ use printout::{Ending, PlanFile};
 #[tactic(auto, using(crate::proofs::OnDisk::ended))]
 pub fn pair_on_disk<D: Disk<PlanFile>>(
     tables: &mut Tables,
+    pairs: &mut [Pair; PAIRS],
+    bytes: &mut [u8; PAIR_BYTES],
     plan: &mut OnDisk<D, Paths>,
 ) -> Result<Ending, D::Error>
     ensures { PairsFolder D.does D.fails plan.old result plan.new }
 {
-    let work = pair_plan(tables, plan);
+    let work = pair_plan(tables, pairs, bytes, plan);
     plan.end(work)
 }

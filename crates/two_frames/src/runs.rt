@@ -13,7 +13,8 @@ use crate::lines::last_line;
 use crate::tables::Tables;
 use frames::{Recording, record_frames};
 use hosts::copy_front;
-use pairing::pair_in_memory;
+use near_faces::Pair;
+use pairing::{PAIR_BYTES, PAIRS, pair_in_memory};
 use printout::{Ending, inspect_bytes};
 
 /// How a run ends, and how long is what it prints, in bytes.
@@ -27,8 +28,17 @@ pub struct Accounted {
 /// is printed into the front of these bytes, as far as they have room, and answers how long it is.
 ///
 /// Where no pair is refused, the claim is of the whole sheet: of every two different faces, near or
-/// far, what shares no point and is not listed stays apart for the whole step.
-pub fn inspect_frames(tables: &mut Tables, start: &[u8], end: &[u8], page: &mut [u8]) -> Accounted
+/// far, what shares no point and is not listed stays apart for the whole step. The lent tables are
+/// worked in, all 12 million bytes; what they hold does not matter.
+pub fn inspect_frames(
+    tables: &mut Tables,
+    table: &mut [Pair; PAIRS],
+    bytes: &mut [u8; PAIR_BYTES],
+    found: &mut [u8; PAIR_BYTES],
+    start: &[u8],
+    end: &[u8],
+    page: &mut [u8],
+) -> Accounted
     ensures ending { result.ending ≡ (account (frames start.now end.now)).ending }
     ensures page { page.new ≡ onto_page (account (frames start.now end.now)).text page.old }
     ensures printed_len { result.printed_len
@@ -44,9 +54,11 @@ pub fn inspect_frames(tables: &mut Tables, start: &[u8], end: &[u8], page: &mut 
             let rest = inspect_sheet(
                 &mut tables.pairing,
                 &mut tables.plan,
+                table,
+                bytes,
                 start,
                 step,
-                &mut tables.pairs,
+                found,
                 &mut page[shown..],
             );
             rest.behind(line_len)
@@ -66,6 +78,8 @@ pub fn inspect_frames(tables: &mut Tables, start: &[u8], end: &[u8], page: &mut 
 fn inspect_sheet(
     pairing: &mut pairing::Tables,
     plan: &mut printout::Tables,
+    table: &mut [Pair; PAIRS],
+    bytes: &mut [u8; PAIR_BYTES],
     sheet: &[u8],
     step: &[u8],
     pairs: &mut [u8],
@@ -78,7 +92,7 @@ fn inspect_sheet(
         ≡ min (length (searched sheet.now step.now).text) (2 ^ 64 - 1) }
     ensures claims { ClaimsOfPlan (paired_plan sheet.now step.now) result.ending }
 {
-    let paired = pair_in_memory(pairing, sheet, step, pairs, page);
+    let paired = pair_in_memory(pairing, table, bytes, sheet, step, pairs, page);
     let line_len = paired.line_len;
     match paired.ending {
         Ending::Complete => {

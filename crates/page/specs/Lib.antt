@@ -1,0 +1,2 @@
+pub mod Codes
+pub mod Shown

@@ -1,0 +1,80 @@
+// The whole run from two frames.
+ghost use Rattle.std.specs.Prelude.{◌≡◌, ◌-◌, ◌^◌, length, min};
+ghost use Rattle.hosts.specs.Pages.{onto_page};
+ghost use Rattle.frames.specs.Frames.{frames};
+ghost use Rattle.two_frames.specs.Accounts.{account, Claims};
+ghost use Rattle.page.specs.Codes.{code_of_frames, refused_in};
+
+use crate::room::Room;
+use frames::FrameFile;
+use two_frames::{FramesEnding, Tables, inspect_frames};
+
+/// How a run ended, 0 covered all pairs, 1 refused some, 2 a fault of the search, 3 of the first
+/// frame, 4 of the second, 5 that they differ; how many pairs were refused, and how many bytes long
+/// is its text.
+#[repr(C)]
+#[derive(Clone, Copy, Debug, PartialEq, Eq)]
+pub struct Accounted {
+    pub code: u32,
+    pub refused: usize,
+    pub text_len: usize,
+}
+
+/// Inspects the step between two frames, as `inspect` does: finds all near pairs and offers them.
+/// Puts what is printed into the front of these bytes, as far as they have room.
+///
+/// Where no pair is refused, the claim is of the whole sheet.
+#[unsafe(no_mangle)]
+pub extern "C" fn page_frames(
+    room: &mut Room,
+    start: &[u8],
+    end: &[u8],
+    text: &mut [u8],
+) -> Accounted
+    ensures code { let a = account (frames start.now end.now) in
+        result.code ≡ code_of_frames a.ending }
+    ensures refused { let a = account (frames start.now end.now) in
+        result.refused ≡ refused_in a.ending }
+    ensures text { let a = account (frames start.now end.now) in
+        text.new ≡ onto_page a.text text.old }
+    ensures text_len { let a = account (frames start.now end.now) in
+        result.text_len ≡ min (length a.text) (2 ^ 64 - 1) }
+    ensures claims { let f = frames start.now end.now in Claims f (account f).ending }
+{
+    let mut tables = Tables::new();
+    let Room {
+        pairs,
+        bytes,
+        found,
+    } = room;
+    let account = inspect_frames(&mut tables, pairs, bytes, found, start, end, text);
+    Accounted {
+        code: code_of_frames(account.ending),
+        refused: refused_in(account.ending),
+        text_len: account.printed_len,
+    }
+}
+
+/// The number of an ending.
+fn code_of_frames(ending: FramesEnding) -> u32
+    ensures { result ≡ code_of_frames ending }
+{
+    match ending {
+        FramesEnding::Covered => 0,
+        FramesEnding::Refused(_) => 1,
+        FramesEnding::Unsearched => 2,
+        FramesEnding::Faulty(FrameFile::Start) => 3,
+        FramesEnding::Faulty(FrameFile::End) => 4,
+        FramesEnding::Different => 5,
+    }
+}
+
+/// How many pairs were refused.
+fn refused_in(ending: FramesEnding) -> usize
+    ensures { result ≡ refused_in ending }
+{
+    match ending {
+        FramesEnding::Refused(count) => count,
+        _ => 0,
+    }
+}
