@@ -1,0 +1,116 @@
+// The module's calls. It imports nothing: it works in its own stack and in the bytes that a call is lent, which lie above
+// __heap_base. Pointers and counts are 64 bits wide, also in a module made for a memory of 32 bits.
+
+// what a slice of the module is given: bytes to read; room for so many rows; room that comes without a count
+const given = (bytes) => ({ bytes, size: bytes.length, counts: [bytes.length] });
+const lent = (rows, bytesEach = 1) => ({ bytes: null, size: rows * bytesEach, counts: [rows] });
+const bare = (size) => ({ bytes: null, size, counts: [] });
+
+export const FIRST_PAGE = 1 << 20;
+const REFUSAL = 24; // no line of a refused pair is longer
+const LONGEST_RECORD = 14336;
+const MOST_POINTS = 2048;
+const MOST_FACES = 4096;
+const MOST_PAIRS = 1000000;
+
+const MODULE_CALLS = ['page_room', 'page_inspect', 'page_record', 'page_near', 'page_frames', 'page_sheet'];
+
+export async function makeCore(moduleBytes) {
+  const module = await WebAssembly.compile(moduleBytes);
+  const wasm = (await WebAssembly.instantiate(module, {})).exports;
+  for (const name of MODULE_CALLS) if (typeof wasm[name] !== 'function') throw new Error(`the module has no ${name}`);
+  return coreOf(wasm);
+}
+
+export function coreOf(wasm) {
+  const memory = wasm.memory;
+  const base = Number(wasm.__heap_base.value);
+  const room = Number(wasm.page_room());
+
+  function reach(end) {
+    const lacking = Math.ceil((end - memory.buffer.byteLength) / 65536);
+    if (lacking <= 0) return;
+    try {
+      memory.grow(BigInt(lacking));
+    } catch (error) {
+      if (!(error instanceof TypeError)) throw error;
+      memory.grow(lacking); // a memory of 32 bits
+    }
+  }
+
+  // Lays the areas one after another, each at a multiple of 16, and calls. The first is for the result: a u32 and two u64.
+  function call(name, ...areas) {
+    let end = base;
+    const places = [bare(24), ...areas].map((area) => {
+      const place = Math.ceil(end / 16) * 16;
+      end = place + area.size;
+      return { ...area, place };
+    });
+    reach(end);
+    const all = new Uint8Array(memory.buffer);
+    for (const { bytes, place } of places) if (bytes) all.set(bytes, place);
+    wasm[name](...places.flatMap(({ place, counts }) => [place, ...counts].map(BigInt)));
+    const told = new DataView(memory.buffer, places[0].place, 24);
+    return {
+      code: told.getUint32(0, true),
+      first: Number(told.getBigUint64(8, true)),
+      second: Number(told.getBigUint64(16, true)),
+      front: (area, length) => memory.buffer.slice(places[area + 1].place, places[area + 1].place + length),
+    };
+  }
+
+  // Calls with a page to print on, which has room for so many refused pairs; where the text is longer than the page, once more
+  // with a page that holds it.
+  function print(name, lengthOf, areas, page, after, pairs) {
+    let size = FIRST_PAGE + REFUSAL * pairs;
+    for (;;) {
+      const answer = call(name, ...areas, lent(size), ...after);
+      const length = lengthOf(answer);
+      if (length <= size) return { ...answer, text: textOf(answer.front(page, length)) };
+      size = length;
+    }
+  }
+
+  const textOf = (buffer) => new TextDecoder().decode(buffer);
+  const bytesOf = (buffer) => new Uint8Array(buffer);
+
+  return {
+    // what `inspect` prints of a plan, and the pairs that it refused. Code 0: complete, 1: a fault ended the run.
+    inspect(sheet, step, pairs) {
+      const answer = print('page_inspect', (a) => a.first, [given(sheet), given(step), given(pairs)], 3, [lent(pairs.length)], pairs.length >> 2);
+      return { code: answer.code, text: answer.text, refused: bytesOf(answer.front(4, answer.second)) };
+    },
+
+    // what `record` makes of two frames. Code 0: recorded, 1 and 2: the frame has a fault, 3: they are not of one sheet.
+    record(start, end) {
+      const answer = call('page_record', given(start), given(end), lent(LONGEST_RECORD), lent(74));
+      const line = textOf(answer.front(3, answer.second));
+      return { code: answer.code, line, step: answer.code === 0 ? bytesOf(answer.front(2, answer.first)) : null };
+    },
+
+    // what `near` makes of a sheet and its step. Code 0: complete, 1: a fault.
+    near(sheet, step) {
+      const answer = call('page_near', bare(room), given(sheet), given(step), lent(4 * MOST_PAIRS), lent(60));
+      const line = textOf(answer.front(4, answer.second));
+      return { code: answer.code, line, pairs: answer.code === 0 ? bytesOf(answer.front(3, answer.first)) : null };
+    },
+
+    // what `inspect` prints of two frames. Code 0: covered all pairs, 1: refused some, 2: the search has a fault,
+    // 3 and 4: the frame has a fault, 5: they are not of one sheet. `pairs` is how many near pairs there are, where that is known.
+    frames(start, end, pairs = 0) {
+      const answer = print('page_frames', (a) => a.second, [bare(room), given(start), given(end)], 3, [], pairs);
+      return { code: answer.code, refused: answer.first, text: answer.text };
+    },
+
+    // the tables of a plan: six coordinates a point, its start and its end; three corners a face. Code 1: a fault.
+    sheet(sheet, step) {
+      const answer = call('page_sheet', given(sheet), given(step), lent(MOST_POINTS, 12), lent(MOST_FACES, 6));
+      if (answer.code !== 0) return { code: answer.code, points: new Int16Array(0), faces: new Uint16Array(0) };
+      return {
+        code: 0,
+        points: new Int16Array(answer.front(2, 12 * answer.first)),
+        faces: new Uint16Array(answer.front(3, 6 * answer.second)),
+      };
+    },
+  };
+}

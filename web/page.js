@@ -1,0 +1,229 @@
+// The page's own wiring: files in, a run in the worker, and what it found into the page.
+import { sortFiles, swapped, takenAs } from './files.js';
+import { chosenFiles, droppedFiles, readFiles } from './intake.js';
+import { makeKeeper } from './keeper.js';
+import { bytesOfBase64, has64, modulesToTry, whyNone } from './modules.js';
+import { explainEnding, groundsOf, pressEntry, showCounts, showDownloads, showEntries, showFault, showRefusals, showReport, showVerdict } from './panels.js';
+import { pairsIn } from './report.js';
+import { makeStage } from './stage.js';
+import { pairsCount, testsCount, timeWords } from './words.js';
+
+const $ = (id) => document.getElementById(id);
+const dataset = document.body.dataset;
+const embedded = (id) => $(id).textContent.trim();
+
+let keeper = null;
+let stage = null;
+let job = null; // the run that goes on: { sorted }
+let sorted = null; // the files that are shown or inspected
+let chosen = -1;
+let addresses = [];
+let clock = 0;
+let begun = 0;
+
+function say(text) { $('state').textContent = text; }
+function setState(state, text) { dataset.state = state; say(text); }
+
+// ---- beginning
+async function begin() {
+  dataset.state = 'loading';
+  dataset.runs = '0';
+  stage = makeStage({
+    canvas: $('view'), slider: $('step'), play: $('play'), where: $('where'), whole: $('whole'),
+    ruler: [...$('ruler').children], hint: $('hint'), none: $('no-picture'), cutNote: $('cut-note'),
+  });
+  const hasWasm = typeof WebAssembly === 'object';
+  const can64 = hasWasm && has64();
+  const given = { 64: embedded('module'), 32: embedded('module32') };
+  const tries = hasWasm ? modulesToTry({ can64, only32: location.hash === '#32', given64: given[64] !== '', given32: given[32] !== '' }) : [];
+  let failure = 'it is not there';
+  for (const bits of tries) {
+    try {
+      keeper = makeKeeper(embedded('worker'), bytesOfBase64(given[bits]));
+      await keeper.start();
+      dataset.module = String(bits);
+      break;
+    } catch (error) {
+      failure = error.message;
+      if (keeper) keeper.end();
+      keeper = null;
+    }
+  }
+  if (!keeper) {
+    document.querySelectorAll('#drop button, #drop input').forEach((control) => { control.disabled = true; });
+    $('drop').classList.add('off');
+    setState('broken', whyNone({ hasWasm, can64: can64 || given[32] !== '', error: failure }));
+    return;
+  }
+  $('about-module').textContent = `The module runs with ${dataset.module}-bit memory.`;
+  setState('ready', 'Ready. The files stay in this page.');
+}
+
+// ---- files
+async function take(files) {
+  if (!keeper) return;
+  try {
+    const read = await readFiles(await files);
+    receive(sortFiles(read));
+  } catch (error) {
+    receive({ kind: 'wrong', why: `The files could not be read: ${error.message}. Drop the files themselves, or choose them.` });
+  }
+}
+
+function receive(what) {
+  stopWork();
+  clear();
+  if (what.kind === 'wrong') { setState('ready', what.why); return; }
+  run(what);
+}
+
+function example() {
+  const files = JSON.parse(embedded('example-files'));
+  const file = (name) => ({ name, bytes: bytesOfBase64(files[name]) });
+  receive({ kind: 'frames', start: file('sheet.obj'), end: file('next.obj'), by: 'example', unused: [] });
+}
+
+// ---- a run
+async function run(what) {
+  const mine = { sorted: what };
+  job = mine;
+  sorted = what;
+  $('taken').hidden = false;
+  $('taken-as').textContent = takenAs(what);
+  $('swap').hidden = what.kind !== 'frames';
+  setState('working', 'Working.');
+  startClock();
+  const asked = what.kind === 'frames' ? { kind: 'frames', start: what.start.bytes, end: what.end.bytes }
+    : { kind: 'plan', sheet: what.sheet.bytes, step: what.step.bytes, pairs: what.pairs ? what.pairs.bytes : null };
+  let film = null;
+  try {
+    const result = await keeper.ask('run', { job: asked }, (told) => {
+      if (job !== mine) return;
+      if (told.film) { film = told.film; stage.show(film); $('stage').classList.add('filled'); }
+      say(`${told.doing}.`);
+    });
+    if (job !== mine) return;
+    const took = performance.now() - begun;
+    endWork();
+    show(what, result, film, took);
+  } catch (error) {
+    if (job !== mine) return;
+    endWork();
+    keeper.stop().catch(() => {});
+    setState('stopped', `The module stopped: ${error.message}. Nothing is said of these files.`);
+  }
+}
+
+function tick() { $('elapsed').textContent = `${((performance.now() - begun) / 1000).toFixed(1)} s`; }
+
+function startClock() {
+  begun = performance.now();
+  $('work').hidden = false;
+  tick();
+  clock = setInterval(tick, 100);
+}
+
+function endWork() {
+  job = null;
+  clearInterval(clock);
+  $('work').hidden = true;
+}
+
+function stopWork() {
+  if (!job) return false;
+  endWork();
+  keeper.stop().catch(() => {});
+  return true;
+}
+
+function clear() {
+  chosen = -1;
+  for (const id of ['taken', 'verdict-box', 'fault', 'found', 'listed', 'refusals', 'counted']) $(id).hidden = true;
+  for (const id of ['verdict', 'notes', 'fault', 'counts', 'entries', 'refused', 'report', 'downloads']) $(id).replaceChildren();
+  addresses.forEach((address) => URL.revokeObjectURL(address));
+  addresses = [];
+  stage.show(null);
+  $('stage').classList.remove('filled');
+}
+
+// ---- what it found
+function show(what, result, film, took) {
+  const { report, text, outcome } = result;
+  const well = outcome === 'covered' || outcome === 'refused';
+  if (well && (report.unknown.length || !report.counts.VF || !report.counts.EE)) {
+    setState('stopped', 'The report has a line that this page does not understand, so it shows nothing of it.');
+    return;
+  }
+  $('found').hidden = false;
+  showReport($('report'), text);
+  const refused = pairsIn(result.refused);
+  addresses = showDownloads($('downloads'), [
+    ['report.txt', text], result.step && ['step.bin', result.step], result.pairs && ['pairs.bin', result.pairs], refused && ['refused.bin', result.refused],
+  ].filter(Boolean));
+  if (well) {
+    showVerdict({ box: $('verdict-box'), verdict: $('verdict'), notes: $('notes') }, groundsOf(what, result, film));
+    showCounts($('counts'), report.counts);
+    $('counted').hidden = false;
+    showEntries($('entries'), report.entries, choose);
+    $('listed').hidden = report.entries.length === 0;
+    $('listed-count').textContent = testsCount(report.entries.length);
+    showRefusals($('refused'), $('refused-rest'), result.refused, report.faults);
+    $('refusals').hidden = refused === 0;
+    $('refused-count').textContent = pairsCount(refused);
+    $('again').onclick = () => again(what, result);
+    stage.show(film, report.entries);
+  } else {
+    showFault($('fault'), explainEnding(what, result));
+    stage.show(film);
+  }
+  dataset.runs = String(Number(dataset.runs) + 1);
+  const told = well ? `${testsCount(report.entries.length)} listed, ${pairsCount(refused)} refused` : (outcome === 'differ' ? 'the frames differ' : 'the run ended at a fault');
+  setState('done', `Done in ${timeWords(took)}: ${told}.`);
+}
+
+function choose(i) {
+  chosen = chosen === i ? -1 : i;
+  pressEntry($('entries'), chosen);
+  stage.choose(chosen);
+}
+
+// The refused pairs in a run of their own.
+function again(what, result) {
+  const sheet = what.kind === 'plan' ? what.sheet : what.start;
+  receive({ kind: 'plan', sheet, step: { name: 'step.bin', bytes: result.step }, pairs: { name: 'refused.bin', bytes: result.refused }, unused: [], again: true });
+}
+
+// In the list, arrow keys go from entry to entry.
+function step(event) {
+  const all = [...$('entries').querySelectorAll('button')];
+  const at = all.indexOf(document.activeElement);
+  const to = { ArrowDown: at + 1, ArrowUp: at - 1, Home: 0, End: all.length - 1 }[event.key];
+  if (at < 0 || to === undefined || !all[to]) return;
+  event.preventDefault();
+  all[to].focus();
+}
+
+// ---- wiring
+$('entries').addEventListener('keydown', step);
+$('past').addEventListener('click', () => $('report').focus());
+$('files').addEventListener('change', (event) => { take(chosenFiles(event.target.files)); event.target.value = ''; });
+$('folder').addEventListener('change', (event) => { take(chosenFiles(event.target.files)); event.target.value = ''; });
+$('example').addEventListener('click', () => { if (keeper) example(); });
+$('swap').addEventListener('click', () => { if (sorted) receive(swapped(sorted)); });
+$('stop').addEventListener('click', () => { if (stopWork()) { clear(); setState('stopped', 'Stopped. Nothing is said of these files.'); } });
+
+// The whole window takes drops of files; other drags are left alone.
+let over = 0;
+function drag(event, change) {
+  if (!event.dataTransfer || ![...event.dataTransfer.types].includes('Files')) return false;
+  event.preventDefault();
+  over = Math.max(0, over + change);
+  $('drop').classList.toggle('over', over > 0);
+  return true;
+}
+addEventListener('dragenter', (event) => drag(event, 1));
+addEventListener('dragover', (event) => drag(event, 0));
+addEventListener('dragleave', (event) => drag(event, -1));
+addEventListener('drop', (event) => { if (drag(event, -over)) take(droppedFiles(event.dataTransfer)); });
+
+begin();

@@ -1,0 +1,55 @@
+// The work of a run, off the page's main thread: from files to a report. `tell` is called with what goes on.
+import { readReport, pairsIn } from './report.js';
+
+const OF_FRAMES = ['covered', 'refused', 'search fault', 'first fault', 'second fault', 'differ'];
+const EMPTY = new Uint8Array(0);
+
+// A job is { kind: 'frames', start, end } or { kind: 'plan', sheet, step, pairs }, where pairs may be null: then the near
+// pairs are found first.
+export function runJob(core, job, tell) {
+  return job.kind === 'frames' ? runFrames(core, job, tell) : runPlan(core, job, tell);
+}
+
+export function runFrames(core, { start, end }, tell) {
+  tell({ doing: 'Comparing the two frames' });
+  const recorded = core.record(start, end);
+  let pairs = null;
+  if (recorded.step) {
+    tell({ doing: sentence(recorded.line), film: core.sheet(start, recorded.step) });
+    const near = core.near(start, recorded.step);
+    pairs = near.pairs;
+    if (pairs) tell({ doing: `${many(pairsIn(pairs))} near pairs. Inspecting them` });
+  }
+  const account = core.frames(start, end, pairs ? pairsIn(pairs) : 0);
+  const outcome = OF_FRAMES[account.code];
+  let refused = EMPTY;
+  if (outcome === 'refused') {
+    tell({ doing: `${many(account.refused)} pairs were refused. Finding out which` });
+    refused = core.inspect(start, recorded.step, pairs).refused;
+    if (pairsIn(refused) !== account.refused) throw new Error('two calls of the module disagree');
+  }
+  return { kind: 'frames', outcome, text: account.text, report: readReport(account.text), step: recorded.step, pairs, refused, found: true };
+}
+
+export function runPlan(core, { sheet, step, pairs }, tell) {
+  tell({ doing: 'Reading the sheet and its step' });
+  const film = core.sheet(sheet, step);
+  if (film.code === 0) tell({ doing: 'The sheet and its step are read', film });
+  const found = !pairs;
+  let offered = pairs;
+  if (film.code === 0 && !offered) {
+    tell({ doing: 'Finding the near pairs' });
+    const near = core.near(sheet, step);
+    if (!near.pairs) {
+      return { kind: 'plan', outcome: 'fault', text: near.line, report: readReport(near.line), step, pairs: null, refused: EMPTY, found };
+    }
+    offered = near.pairs;
+  }
+  if (film.code === 0) tell({ doing: `Inspecting ${many(pairsIn(offered))} pairs` });
+  const told = core.inspect(sheet, step, offered || EMPTY);
+  const outcome = told.code !== 0 ? 'fault' : pairsIn(told.refused) ? 'refused' : 'covered';
+  return { kind: 'plan', outcome, text: told.text, report: readReport(told.text), step, pairs: offered, refused: told.refused, found };
+}
+
+const many = (n) => n.toLocaleString('en');
+const sentence = (line) => line.trim().replace(/^./, (letter) => letter.toUpperCase());
