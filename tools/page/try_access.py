@@ -1,0 +1,212 @@
+"""Who can use the page, and what it leaves alone: keyboard and screen reader, network, storage, and a run that is stopped."""
+
+import re
+
+from bench import CROSSING_END, CROSSING_PAIRS, CROSSING_START, CROSSING_STEP, EXAMPLE, full_lists, holds, long_run, same
+
+IDS = "drop files example state stop verdict counts entries refusals report fault downloads view step play where".split()
+# what a hand can reach: shown, and not switched off
+CONTROLS = """[...document.querySelectorAll('button, input, select, textarea, summary, a[href], [tabindex]')]
+  .filter((it) => it.tabIndex >= 0 && !it.disabled && it.checkVisibility({ visibilityProperty: true }))
+  .map((it, n) => { it.dataset.walk = n; return it.outerHTML.slice(0, 120); })"""
+FOCUSED = """(() => { const it = document.activeElement; return it && it !== document.body ? it.dataset.walk ?? ('#' + it.id) : null; })()"""
+ROLES = {"button", "link", "slider", "textbox", "checkbox", "radio", "combobox", "listbox", "image", "img", "canvas", "table", "region", "group"}
+MUST_HAVE_NAMES = ROLES - {"table", "region", "group"}
+KEPT = """(async () => [localStorage.length, sessionStorage.length, (await indexedDB.databases()).length, document.cookie])()"""
+REACH = """async (address) => {
+  const tries = {
+    fetch: () => fetch(`http://${address}/`),
+    request: () => new Promise((done, failed) => { const it = new XMLHttpRequest(); it.onload = done; it.onerror = failed; it.open('GET', `http://${address}/`); it.send(); }),
+    image: () => new Promise((done, failed) => { const it = new Image(); it.onload = done; it.onerror = failed; it.src = `http://${address}/x.png`; }),
+    script: () => new Promise((done, failed) => { const it = document.createElement('script'); it.onload = done; it.onerror = failed; it.src = `http://${address}/x.js`; document.head.append(it); }),
+    style: () => new Promise((done, failed) => { const it = document.createElement('link'); it.rel = 'stylesheet'; it.onload = done; it.onerror = failed; it.href = `http://${address}/x.css`; document.head.append(it); }),
+    socket: () => new Promise((done, failed) => { const it = new WebSocket(`ws://${address}/`); it.onopen = done; it.onerror = failed; }),
+    beacon: () => new Promise((done, failed) => { navigator.sendBeacon(`http://${address}/`, 'x'); setTimeout(failed, 60); }),
+    frame: () => new Promise((done, failed) => { const it = document.createElement('iframe'); it.src = `http://${address}/`; document.body.append(it); setTimeout(failed, 60); }),
+  };
+  const went = [];
+  for (const [name, act] of Object.entries(tries)) await Promise.resolve().then(act).then(() => went.push(name), () => {});
+  return went;
+}"""
+
+
+def full(bench):
+    """A page on which everything is shown: an entry, a refused pair and the downloads."""
+    page = bench.page()
+    bench.drop(page, *bench.plan("some-refused", CROSSING_START, CROSSING_STEP, CROSSING_PAIRS + bytes(4)))
+    return page
+
+
+def elements(bench):
+    page = full(bench)
+    for it in IDS:
+        same(f"elements with the id {it}", page.evaluate("(id) => document.querySelectorAll('#' + CSS.escape(id)).length", it), 1)
+    same("the role of #state", page.evaluate("document.getElementById('state').getAttribute('role')"), "status")
+    same("the languages", page.evaluate("document.documentElement.lang"), "en")
+    holds("the page has no title", page.evaluate("document.title"))
+    bench.close(page)
+
+
+def keyboard(bench):
+    """Tab goes through every control, and back to the first."""
+    page = full(bench)
+    controls = page.evaluate(CONTROLS)
+    page.evaluate("document.activeElement.blur()")
+    seen = []
+    for _ in range(len(controls) + 40):
+        page.press("Tab")
+        at = page.evaluate(FOCUSED)
+        if at in seen:
+            break
+        if at is not None:
+            seen.append(at)
+    for it in ("#files", "#example", "#step", "#play", "#entries button", "#downloads a[download='report.txt']"):
+        holds(f"{it} cannot be reached by keyboard", page.evaluate("(s) => document.querySelector(s).matches('[data-walk]')", it))
+    missed = [it for n, it in enumerate(controls) if str(n) not in seen]
+    same("what Tab does not reach", missed, [])
+    holds(f"there are hardly any controls: {controls}", len(controls) > 10)
+    bench.close(page)
+    # from the first key to the report, with no mouse
+    page = bench.page()
+    page.evaluate("document.activeElement.blur()")
+    for _ in range(20):
+        page.press("Tab")
+        if page.evaluate("document.activeElement.id") == "example":
+            break
+    bench.finish(page, lambda: page.press("Enter"))
+    bench.close(page)
+    return f"{len(controls)} controls"
+
+
+def names(bench):
+    """Every control has a name for a screen reader."""
+    page = full(bench)
+    page.call("Accessibility.enable")
+    nodes = page.call("Accessibility.getFullAXTree")["nodes"]
+    value = lambda node, key: node.get(key, {}).get("value", "")
+    shown = [it for it in nodes if not it.get("ignored")]
+    nameless = [value(it, "role") for it in shown if value(it, "role").lower() in {r.lower() for r in MUST_HAVE_NAMES} and not value(it, "name").strip()]
+    same("controls without a name", nameless, [])
+    roles = [value(it, "role") for it in shown]
+    for role in ("button", "slider", "link", "status", "heading", "list", "main"):
+        holds(f"nothing has the role {role}: {sorted(set(roles))}", role in roles)
+    pressed = [it for it in shown if value(it, "role") == "button" and any(p["name"] == "pressed" for p in it.get("properties", []))]
+    entries = page.evaluate("document.querySelectorAll('#entries button').length")
+    holds(f"of {entries} entries {len(pressed)} tell whether they are chosen", len(pressed) >= entries > 0)
+    slider = next(it for it in shown if value(it, "role") == "slider")
+    holds("the slider does not tell where it stands", value(slider, "value") != "" or value(slider, "name"))
+    page.call("Accessibility.disable")
+    bench.close(page)
+    return f"{len(shown)} nodes"
+
+
+def network(bench):
+    """Nothing can be asked of a network: whatever is tried, nothing arrives."""
+    page = bench.page()
+    bench.listener.requests()
+    same("what went out of the page", page.evaluate(REACH, bench.listener.address), [])
+    in_worker = """(address) => new Promise((done) => {
+      const url = URL.createObjectURL(new Blob([`fetch('http://${address}/').then(() => postMessage('went'), () => postMessage('not'))`]));
+      const worker = new Worker(url); worker.onmessage = ({ data }) => done(data); worker.onerror = () => done('not'); })"""
+    same("a request of a worker", page.evaluate(in_worker, bench.listener.address), "not")
+    page.rest(0.1)
+    same("requests that arrived", bench.listener.requests(), 0)
+    holds("the content policy says nothing of what it refused", any("Content Security Policy" in it for it in page.errors))
+    page.asked.clear()
+    page.errors.clear()
+    bench.close(page)
+    text = re.sub(r"[A-Za-z0-9+/=]{200,}", "", bench.html.read_text())
+    same("addresses in the page", re.findall(r"(?:https?|wss?|ftp)://[^'\"` <]*", text), [])
+    same("what it links to", re.findall(r"<(?:link|iframe|object|embed|base|form|img)\b[^>]*|<[^>]*\bsrc=[^>]*", text), [])
+    # a page without the policy gets out, so this would be seen
+    other = bench.browser.open(bench.file("open.html", "<!doctype html><title>open</title>"))
+    other.evaluate("(address) => { fetch(`http://${address}/`, { mode: 'no-cors' }).catch(() => 0); }", bench.listener.address)
+    other.rest(0.3)
+    holds("a page without a policy is not seen to reach the port", bench.listener.requests() > 0)
+    other.close()
+
+
+def nothing_stored(bench):
+    page = full(bench)
+    same("what is stored", page.evaluate(KEPT), [0, 0, 0, ""])
+    bench.close(page)
+
+
+def downloads(bench):
+    """The files that are saved have the right bytes."""
+    page = bench.page()
+    start, end = full_lists(bench)
+    bench.drop(page, start, end)
+    to = bench.work / "downloads"
+    to.mkdir(exist_ok=True)
+    bench.browser.call("Browser.setDownloadBehavior", behavior="allow", downloadPath=str(to))
+    report, _ = bench.inspected(start, end)
+    pairs = b"".join(bytes((a, 0, b, 0)) for a in range(12) for b in range(a + 1, 12))
+    wanted = {"report.txt": report.encode(), "step.bin": bytes(36), "pairs.bin": pairs, "refused.bin": pairs[-40:]}
+    links = page.evaluate("[...document.querySelectorAll('#downloads a')].map((it) => it.download)")
+    same("the links", sorted(links), sorted(wanted))
+    for name, bytes_ in wanted.items():
+        page.evaluate("(name) => [...document.querySelectorAll('#downloads a')].find((it) => it.download === name).click()", name)
+        saved(page, to / name, bytes_)
+    # of the example's step
+    bench.example(page)
+    same("the links", sorted(page.evaluate("[...document.querySelectorAll('#downloads a')].map((it) => it.download)")), ["pairs.bin", "report.txt", "step.bin"])
+    for name in ("step.bin", "pairs.bin"):
+        (to / name).unlink()
+        page.evaluate("(name) => [...document.querySelectorAll('#downloads a')].find((it) => it.download === name).click()", name)
+        saved(page, to / name, (EXAMPLE / name).read_bytes())
+    bench.close(page)
+
+
+def saved(page, path, wanted):
+    for _ in range(200):
+        if path.exists() and path.read_bytes() == wanted:
+            return
+        page.rest(0.02)
+    same(f"the saved {path.name}", path.read_bytes() if path.exists() else None, wanted)
+
+
+def stopped(bench):
+    """A run over a million pairs is stopped, and the page works on."""
+    page = bench.page()
+    page.choose_files("#files", long_run(bench))
+    page.wait("document.body.dataset.state === 'working'", 5)
+    page.rest(0.2)
+    holds("there is no button to stop", bench.seen(page, "#stop"))
+    holds("what goes on is not told", bench.text(page, "#state").strip())
+    same("the state while it works", bench.state(page), "working")
+    answers = page.evaluate("new Promise((done) => { const begun = performance.now(); setTimeout(() => done(performance.now() - begun), 20); })")
+    holds(f"the page does not answer while it works: {answers:.0f} ms", answers < 500)
+    page.evaluate("document.getElementById('stop').focus()")
+    page.press("Enter")
+    page.wait("document.body.dataset.state === 'stopped'", 3)
+    holds("the button to stop is still shown", not bench.seen(page, "#stop"))
+    start, end = bench.frames("crossing", CROSSING_START, CROSSING_END)
+    bench.choose(page, start, end)
+    same("the report after a stop", bench.text(page, "#report"), bench.inspected(start, end)[0])
+    bench.close(page)
+
+
+def small_screen(bench):
+    """On a narrow screen nothing is cut off, and the picture is still there."""
+    page = bench.page()
+    page.call("Emulation.setDeviceMetricsOverride", width=360, height=720, deviceScaleFactor=1, mobile=False)
+    bench.drop(page, *bench.plan("some-refused", CROSSING_START, CROSSING_STEP, CROSSING_PAIRS + bytes(4)))
+    bench.still(page)
+    wide = page.evaluate("document.scrollingElement.scrollWidth")
+    holds(f"the page is {wide} wide on a screen of 360", wide <= 360)
+    _, _, width, height = page.box("#view")
+    holds(f"the picture is {width:.0f} by {height:.0f}", width > 200 and height > 200)
+    bench.close(page)
+
+
+tests = [
+    ("the page's elements", elements),
+    ("everything by keyboard", keyboard),
+    ("names for a screen reader", names),
+    ("nothing asked of the network", network),
+    ("nothing stored", nothing_stored),
+    ("downloads", downloads),
+    ("a run that is stopped", stopped),
+    ("a narrow screen", small_screen),
+]
