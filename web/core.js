@@ -96,10 +96,12 @@ export function coreOf(wasm) {
     },
 
     // what `inspect` prints of two frames. Code 0: covered all pairs, 1: refused some, 2: the search has a fault,
-    // 3 and 4: the frame has a fault, 5: they are not of one sheet. `pairs` is how many near pairs there are, where that is known.
+    // 3 and 4: the frame has a fault, 5: they are not of one sheet. `pairs` is how many near pairs there are, where that is known;
+    // then the refused ones come too.
     frames(start, end, pairs = 0) {
-      const answer = print('page_frames', (a) => a.second, [bare(room), given(start), given(end)], 3, [], pairs);
-      return { code: answer.code, refused: answer.first, text: answer.text };
+      const answer = print('page_frames', (a) => a.second, [bare(room), given(start), given(end)], 3, [lent(4 * pairs)], pairs);
+      const refused = Math.min(answer.first, pairs);
+      return { code: answer.code, refused: answer.first, refusedPairs: bytesOf(answer.front(4, 4 * refused)), text: answer.text };
     },
 
     // the tables of a plan: six coordinates a point, its start and its end; three corners a face. Code 1: a fault.

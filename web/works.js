@@ -21,14 +21,11 @@ export function runFrames(core, { start, end }, tell) {
     if (pairs) tell({ doing: `${many(pairsIn(pairs))} near pairs. Inspecting them` });
   }
   const account = core.frames(start, end, pairs ? pairsIn(pairs) : 0);
-  const outcome = OF_FRAMES[account.code];
-  let refused = EMPTY;
-  if (outcome === 'refused') {
-    tell({ doing: `${many(account.refused)} pairs were refused. Finding out which` });
-    refused = core.inspect(start, recorded.step, pairs).refused;
-    if (pairsIn(refused) !== account.refused) throw new Error('two calls of the module disagree');
-  }
-  return { kind: 'frames', outcome, text: account.text, report: readReport(account.text), step: recorded.step, pairs, refused, found: true };
+  const refused = account.refusedPairs;
+  if (pairsIn(refused) !== account.refused) throw new Error('a refused pair is missing');
+  return {
+    kind: 'frames', outcome: OF_FRAMES[account.code], text: account.text, report: readReport(account.text), step: recorded.step, pairs, refused, found: true,
+  };
 }
 
 export function runPlan(core, { sheet, step, pairs }, tell) {

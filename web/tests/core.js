@@ -46,8 +46,9 @@ export const tests = [
     const text = 'fault 21 offer 0 0\n'.repeat(100000);
     const sizes = [];
     const core = coreOf(pretended(({ read, write, answer, memory }) => ({
-      page_frames(result, room, s, sn, e, en, page, size) {
+      page_frames(result, room, s, sn, e, en, page, size, refused, rn) {
         sizes.push(Number(size));
+        if (rn > 0n) write(refused, C.slice(4));
         holds(Number(s) - Number(room) >= 70000, 'the room is as large as it is to be');
         write(page, textBytes(text).subarray(0, Number(size)));
         holds(Number(page) + Number(size) <= memory.buffer.byteLength, 'the page lies in the memory');
@@ -56,7 +57,10 @@ export const tests = [
     }), 'bigint'));
     const told = core.frames(A, B);
     equal([told.code, told.refused, told.text === text, sizes], [1, 100000, true, [FIRST_PAGE, text.length]]);
-    equal([core.frames(A, B, 100000).text === text, sizes.length], [true, 3], 'where the pairs are known, one call is enough');
+    equal(told.refusedPairs.length, 0, 'no room is lent for pairs that are not known');
+    const known = core.frames(A, B, 100000);
+    equal([known.text === text, sizes.length], [true, 3], 'where the pairs are known, one call is enough');
+    equal([known.refusedPairs.length, known.refusedPairs.slice(0, 4)], [400000, C.slice(4)]);
   }],
   ['a record, or none', () => {
     const core = coreOf(pretended(({ read, write, answer }) => ({

@@ -11,7 +11,7 @@ function calls(over = {}) {
   const core = {
     record: () => ({ code: 0, line: 'step 1 points, 0 moved, 1 bytes\n', step: STEP }),
     near: () => ({ code: 0, line: 'near 3 faces, 2 pairs\n', pairs: PAIRS }),
-    frames: () => ({ code: 0, refused: 0, text: `step 1 points, 0 moved, 1 bytes\nnear 3 faces, 2 pairs\n${counts}covered all pairs\n` }),
+    frames: () => ({ code: 0, refused: 0, refusedPairs: new Uint8Array(0), text: `step 1 points, 0 moved, 1 bytes\nnear 3 faces, 2 pairs\n${counts}covered all pairs\n` }),
     inspect: () => ({ code: 0, text: counts, refused: new Uint8Array(0) }),
     sheet: () => film,
     ...over,
@@ -36,21 +36,20 @@ export const tests = [
     equal([result.outcome, result.step, result.pairs, result.found], ['covered', STEP, PAIRS, true]);
     holds(doings.some((line) => line.startsWith('Step 1 points')) && doings.some((line) => line.startsWith('2 near pairs')), doings.join());
   }],
-  ['two frames of which pairs are refused: which they are is asked', () => {
+  ['two frames of which pairs are refused: the run tells which', () => {
     const text = `fault 21 offer 0 0\n${counts}refused 1 pairs\n`;
-    const over = { frames: () => ({ code: 1, refused: 1, text }), inspect: () => ({ code: 0, text: '', refused: PAIRS.slice(4) }) };
-    const { result, asked } = run(frames, over);
-    equal([result.outcome, result.refused, asked[asked.length - 1]], ['refused', PAIRS.slice(4), 'inspect']);
+    const { result, asked } = run(frames, { frames: () => ({ code: 1, refused: 1, refusedPairs: PAIRS.slice(4), text }) });
+    equal([result.outcome, result.refused, asked], ['refused', PAIRS.slice(4), ['record', 'sheet', 'near', 'frames']]);
     let failed = false;
-    try { run(frames, { ...over, inspect: () => ({ code: 0, text: '', refused: PAIRS }) }); } catch { failed = true; }
-    holds(failed, 'calls that disagree end the run');
+    try { run(frames, { frames: () => ({ code: 1, refused: 2, refusedPairs: PAIRS.slice(4), text }) }); } catch { failed = true; }
+    holds(failed, 'a count that the pairs do not have ends the run');
   }],
   ['frames with a fault, that differ, or with too many pairs', () => {
     for (const [code, outcome] of [[3, 'first fault'], [4, 'second fault'], [5, 'differ']]) {
-      const { result, asked } = run(frames, { record: () => ({ code: code - 2, line: 'x\n', step: null }), frames: () => ({ code, refused: 0, text: 'fault 1 field 8 3\n' }) });
+      const { result, asked } = run(frames, { record: () => ({ code: code - 2, line: 'x\n', step: null }), frames: () => ({ code, refused: 0, refusedPairs: new Uint8Array(0), text: 'fault 1 field 8 3\n' }) });
       equal([result.outcome, result.step, result.pairs, asked], [outcome, null, null, ['record', 'frames']]);
     }
-    const { result } = run(frames, { near: () => ({ code: 1, line: 'fault 25 search 0 0\n', pairs: null }), frames: () => ({ code: 2, refused: 0, text: 'fault 25 search 0 0\n' }) });
+    const { result } = run(frames, { near: () => ({ code: 1, line: 'fault 25 search 0 0\n', pairs: null }), frames: () => ({ code: 2, refused: 0, refusedPairs: new Uint8Array(0), text: 'fault 25 search 0 0\n' }) });
     equal([result.outcome, result.step, result.pairs], ['search fault', STEP, null]);
   }],
   ['a plan with its pairs', () => {

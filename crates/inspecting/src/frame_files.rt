@@ -78,7 +78,16 @@ fn inspect_paths(
     let first_len = disk.fill(FrameFile::Start, start, &mut first)?;
     let first = &first[..first_len];
     // a fault of the first needs no second
-    let account = inspect_frames(&mut tables, pairs, bytes, found, first, b"", &mut page);
+    let account = inspect_frames(
+        &mut tables,
+        pairs,
+        bytes,
+        found,
+        first,
+        b"",
+        &mut page,
+        &mut [],
+    );
     if account.ending == FramesEnding::Faulty(FrameFile::Start) {
         return print_account(&mut disk, account, &page);
     }
@@ -111,13 +120,31 @@ fn account_of(
         take a.printed_len page.items ≡ (account (frames first.now second.now)).text) }
 {
     let mut page = page;
-    let account = inspect_frames(tables, pairs, bytes, found, first, second, &mut page);
+    let account = inspect_frames(
+        tables,
+        pairs,
+        bytes,
+        found,
+        first,
+        second,
+        &mut page,
+        &mut [],
+    );
     if account.printed_len <= page.len() {
         return Ok((account, page));
     }
     match zeros(rt, account.printed_len) {
         Ok(mut longer) => {
-            let account = inspect_frames(tables, pairs, bytes, found, first, second, &mut longer);
+            let account = inspect_frames(
+                tables,
+                pairs,
+                bytes,
+                found,
+                first,
+                second,
+                &mut longer,
+                &mut [],
+            );
             Ok((account, longer))
         }
         Err(failure) => Err((account, page, failure)),

@@ -21,7 +21,8 @@ pub struct Accounted {
 }
 
 /// Inspects the step between two frames, as `inspect` does: finds all near pairs and offers them.
-/// Puts what is printed into the front of these bytes, as far as they have room.
+/// Puts what is printed, and the pairs that are refused, into the front of these bytes, as far as
+/// they have room.
 ///
 /// Where no pair is refused, the claim is of the whole sheet.
 #[unsafe(no_mangle)]
@@ -30,11 +31,14 @@ pub extern "C" fn page_frames(
     start: &[u8],
     end: &[u8],
     text: &mut [u8],
+    refused: &mut [u8],
 ) -> Accounted
     ensures code { let a = account (frames start.now end.now) in
         result.code ≡ code_of_frames a.ending }
-    ensures refused { let a = account (frames start.now end.now) in
+    ensures count { let a = account (frames start.now end.now) in
         result.refused ≡ refused_in a.ending }
+    ensures refused { let a = account (frames start.now end.now) in
+        refused.new ≡ onto_page a.refused refused.old }
     ensures text { let a = account (frames start.now end.now) in
         text.new ≡ onto_page a.text text.old }
     ensures text_len { let a = account (frames start.now end.now) in
@@ -47,7 +51,7 @@ pub extern "C" fn page_frames(
         bytes,
         found,
     } = room;
-    let account = inspect_frames(&mut tables, pairs, bytes, found, start, end, text);
+    let account = inspect_frames(&mut tables, pairs, bytes, found, start, end, text, refused);
     Accounted {
         code: code_of_frames(account.ending),
         refused: refused_in(account.ending),

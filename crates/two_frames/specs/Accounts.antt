@@ -33,26 +33,41 @@ last_line n =
 abbrev pub ending_by : ℕ → FramesEnding
 ending_by n = if n == 0 then ending.Covered else ending.Refused n
 
--- ---- all that is printed, and how it ends
+-- ---- all that is printed, the bytes of the refused pairs, and how it ends
 pub record Account : Type 0 where
   pub text : List ℕ
+  pub refused : List ℕ
   pub ending : FramesEnding
 
 -- of a plan whose sheet and step have no fault
 abbrev pub inspected : Plan → Account
 inspected p =
-    let n = refused_count p in record { text = (printout p).text ++ last_line n; ending = ending_by n }
+    let n = refused_count p in
+    record {
+      text = (printout p).text ++ last_line n;
+      refused = (printout p).stored;
+      ending = ending_by n;
+    }
+
+-- nothing but this is printed
+abbrev pub ends_there : List ℕ → FramesEnding → Account
+ends_there line e = record { text = line; refused = []; ending = e }
+
+-- this is printed first
+abbrev pub behind : List ℕ → Account → Account
+behind line rest =
+    record { text = line ++ rest.text; refused = rest.refused; ending = rest.ending }
 
 -- behind the line of the pairs
 abbrev pub after_pairing : List ℕ → Ending → Account → Account
-after_pairing line plan_ending.Complete rest = record { text = line ++ rest.text; ending = rest.ending }
-after_pairing line plan_ending.Faulty rest = record { text = line; ending = ending.Unsearched }
+after_pairing line plan_ending.Complete rest = behind line rest
+after_pairing line plan_ending.Faulty rest = ends_there line ending.Unsearched
 
 -- behind the line of the step
 abbrev pub after_recording : List ℕ → Recording → Account → Account
-after_recording line Recorded rest = record { text = line ++ rest.text; ending = rest.ending }
-after_recording line (Faulty file) rest = record { text = line; ending = ending.Faulty file }
-after_recording line Different rest = record { text = line; ending = ending.Different }
+after_recording line Recorded rest = behind line rest
+after_recording line (Faulty file) rest = ends_there line (ending.Faulty file)
+after_recording line Different rest = ends_there line ending.Different
 
 -- of a sheet and its step
 abbrev pub searched : List ℕ → List ℕ → Account

@@ -25,7 +25,8 @@ pub struct Accounted {
 }
 
 /// Inspects the step between two frames in memory: finds all near pairs and offers them. Puts what
-/// is printed into the front of these bytes, as far as they have room, and answers how long it is.
+/// is printed, and the pairs that are refused, into the front of these bytes, as far as they have
+/// room, and answers how long what is printed is.
 ///
 /// Where no pair is refused, the claim is of the whole sheet: of every two different faces, near or
 /// far, what shares no point and is not listed stays apart for the whole step. The lent tables are
@@ -38,9 +39,12 @@ pub fn inspect_frames(
     start: &[u8],
     end: &[u8],
     page: &mut [u8],
+    refused: &mut [u8],
 ) -> Accounted
     ensures ending { result.ending ≡ (account (frames start.now end.now)).ending }
     ensures page { page.new ≡ onto_page (account (frames start.now end.now)).text page.old }
+    ensures refused { refused.new
+        ≡ onto_page (account (frames start.now end.now)).refused refused.old }
     ensures printed_len { result.printed_len
         ≡ min (length (account (frames start.now end.now)).text) (2 ^ 64 - 1) }
     ensures claims { Claims (frames start.now end.now) result.ending }
@@ -60,6 +64,7 @@ pub fn inspect_frames(
                 step,
                 found,
                 &mut page[shown..],
+                refused,
             );
             rest.behind(line_len)
         }
@@ -84,10 +89,12 @@ fn inspect_sheet(
     step: &[u8],
     pairs: &mut [u8],
     page: &mut [u8],
+    refused: &mut [u8],
 ) -> Accounted
     requires { length pairs.old ≡ 4 * pair_room }
     ensures ending { result.ending ≡ (searched sheet.now step.now).ending }
     ensures page { page.new ≡ onto_page (searched sheet.now step.now).text page.old }
+    ensures refused { refused.new ≡ onto_page (searched sheet.now step.now).refused refused.old }
     ensures printed_len { result.printed_len
         ≡ min (length (searched sheet.now step.now).text) (2 ^ 64 - 1) }
     ensures claims { ClaimsOfPlan (paired_plan sheet.now step.now) result.ending }
@@ -98,7 +105,7 @@ fn inspect_sheet(
         Ending::Complete => {
             let shown = line_len.min(page.len());
             let pairs = &pairs[..paired.pairs_len];
-            let rest = inspect_pairs(plan, sheet, step, pairs, &mut page[shown..]);
+            let rest = inspect_pairs(plan, sheet, step, pairs, &mut page[shown..], refused);
             rest.behind(line_len)
         }
         Ending::Faulty => Accounted {
@@ -115,17 +122,20 @@ fn inspect_pairs(
     step: &[u8],
     pairs: &[u8],
     page: &mut [u8],
+    refused: &mut [u8],
 ) -> Accounted
     requires { None ≡ fault (plan sheet.now step.now pairs.now) }
     ensures ending { let p = plan sheet.now step.now pairs.now in
         result.ending ≡ (inspected p).ending }
     ensures page { let p = plan sheet.now step.now pairs.now in
         page.new ≡ onto_page (inspected p).text page.old }
+    ensures refused { let p = plan sheet.now step.now pairs.now in
+        refused.new ≡ onto_page (inspected p).refused refused.old }
     ensures printed_len { let p = plan sheet.now step.now pairs.now in
         result.printed_len ≡ min (length (inspected p).text) (2 ^ 64 - 1) }
     ensures claim { ClaimOfPlan (plan sheet.now step.now pairs.now) }
 {
-    let inspected = inspect_bytes(tables, sheet, step, pairs, page, &mut []);
+    let inspected = inspect_bytes(tables, sheet, step, pairs, page, refused);
     let shown = inspected.printed_len.min(page.len());
     let last = tell_refused(inspected.stored_len / 4, &mut page[shown..]);
     last.behind(inspected.printed_len)

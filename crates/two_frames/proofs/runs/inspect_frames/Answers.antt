@@ -67,3 +67,14 @@ returns-in-Recorded-clause-claims c =
     let here = subst (λ (bs : List ℕ). let p = paired_plan f.start bs in ClaimsOver (sheet p) p c.inspect_sheet-rest.result.ending) b c.inspect_sheet-rest.ensures.claims in
     let p = paired_plan f.start (record_between f) in
     subst (ClaimsOver (sheet_between f) p) (sym c.behind.ensures.ending) (subst (λ (s : Sheet). ClaimsOver s p c.inspect_sheet-rest.result.ending) (same_sheet f is) here)
+
+pub returns-in-Recorded-clause-refused : goal.returns-in-Recorded-clause-refused
+returns-in-Recorded-clause-refused c =
+    let f = frames c.args.start.now c.args.end.now in
+    let r = c.record_frames-recorded.ensures in
+    let e = sym r.answer ∙ c.in-Recorded.is in
+    let b = back f _ _ _ (record_fits f e) (search rules) r.record_len r.record_bytes in
+    let line = with_line_feed (outcome f).line in
+    let all = searched f.start (record_between f) in
+    c.inspect_sheet-rest.ensures.refused ∙ ap (λ (bs : List ℕ). onto_page (searched f.start bs).refused c.args.refused.now) b
+    ∙ sym (ap (λ (x : Recording). onto_page (after_recording line x all).refused c.args.refused.now) e)

@@ -71,3 +71,13 @@ returns-in-Complete-clause-claims c =
     let b = back c.args.sheet.now c.args.step.now c.args.pairs.now _ _ is c.requires p.pairs_len p.pairs in
     claims_so c.args.sheet.now c.args.step.now is (subst ClaimOfPlan b c.inspect_pairs-rest.ensures.claim) c.behind.result.ending
     (c.behind.ensures.ending ∙ c.inspect_pairs-rest.ensures.ending ∙ ap (λ (q : Plan). (inspected q).ending) b)
+
+pub returns-in-Complete-clause-refused : goal.returns-in-Complete-clause-refused
+returns-in-Complete-clause-refused c =
+    let p = c.pair_in_memory-paired.ensures in
+    let e = sym p.ending ∙ c.in-Complete.is in
+    let b = back c.args.sheet.now c.args.step.now c.args.pairs.now _ _ (paired_so c.args.sheet.now c.args.step.now e) c.requires p.pairs_len p.pairs in
+    let o = pairing c.args.sheet.now c.args.step.now in
+    let all = inspected (paired_plan c.args.sheet.now c.args.step.now) in
+    c.inspect_pairs-rest.ensures.refused ∙ ap (λ (q : Plan). onto_page (inspected q).refused c.args.refused.now) b
+    ∙ sym (ap (λ (x : Ending). onto_page (after_pairing o.line x all).refused c.args.refused.now) e)
