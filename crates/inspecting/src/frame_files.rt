@@ -7,7 +7,7 @@ ghost use Rattle.inspecting.specs.Statuses.{status_after};
 use files::{Disk, Failure, Machine, Site, tell};
 use frames::FrameFile;
 use near_faces::Pair;
-use pairing::{PAIR_BYTES, PAIRS};
+use pairing::{PAIR_BYTES, PAIR_LIMIT};
 use sheet::TEXT_LIMIT;
 use std::alloc::AllocError;
 use std::io;
@@ -66,12 +66,12 @@ fn inspect_paths(
 ) -> Result<FramesEnding, Failure<FrameFile>> {
     let mut disk = Machine::new(*rt, None)?;
     let mut tables = Tables::new();
-    let mut pairs = rows(rt, Pair::default(), PAIRS)?;
-    let pairs = whole(&mut pairs);
+    let mut near = table_of(rt, Pair::default(), PAIR_LIMIT)?;
+    let near = full_table(&mut near);
     let mut bytes = zeros(rt, PAIR_BYTES)?;
-    let bytes = whole(&mut bytes);
-    let mut found = zeros(rt, PAIR_BYTES)?;
-    let found = whole(&mut found);
+    let bytes = full_table(&mut bytes);
+    let mut offered = zeros(rt, PAIR_BYTES)?;
+    let offered = full_table(&mut offered);
     let mut first = zeros(rt, TEXT)?;
     let mut second = zeros(rt, TEXT)?;
     let mut page = zeros(rt, PAGE)?;
@@ -80,9 +80,9 @@ fn inspect_paths(
     // a fault of the first needs no second
     let account = inspect_frames(
         &mut tables,
-        pairs,
+        near,
         bytes,
-        found,
+        offered,
         first,
         b"",
         &mut page,
@@ -93,7 +93,7 @@ fn inspect_paths(
     }
     let second_len = disk.fill(FrameFile::End, end, &mut second)?;
     let second = &second[..second_len];
-    match account_of(rt, &mut tables, pairs, bytes, found, first, second, page) {
+    match account_of(rt, &mut tables, near, bytes, offered, first, second, page) {
         Ok((account, page)) => print_account(&mut disk, account, &page),
         Err((account, page, failure)) => {
             print_account(&mut disk, account, &page)?;
@@ -107,9 +107,9 @@ fn inspect_paths(
 fn account_of(
     rt: &HostRuntime,
     tables: &mut Tables,
-    pairs: &mut [Pair; PAIRS],
+    near: &mut [Pair; PAIR_LIMIT],
     bytes: &mut [u8; PAIR_BYTES],
-    found: &mut [u8; PAIR_BYTES],
+    offered: &mut [u8; PAIR_BYTES],
     first: &[u8],
     second: &[u8],
     page: Vec<u8>,
@@ -122,9 +122,9 @@ fn account_of(
     let mut page = page;
     let account = inspect_frames(
         tables,
-        pairs,
+        near,
         bytes,
-        found,
+        offered,
         first,
         second,
         &mut page,
@@ -137,9 +137,9 @@ fn account_of(
         Ok(mut longer) => {
             let account = inspect_frames(
                 tables,
-                pairs,
+                near,
                 bytes,
-                found,
+                offered,
                 first,
                 second,
                 &mut longer,
@@ -165,18 +165,18 @@ fn print_account(
 fn zeros(rt: &HostRuntime, len: usize) -> Result<Vec<u8>, Failure<FrameFile>>
     ensures { IfOk result (λ v. length v.items ≡ len) }
 {
-    rows(rt, 0, len)
+    table_of(rt, 0, len)
 }
 
-/// So many rows.
-fn rows<T: Copy>(rt: &HostRuntime, row: T, len: usize) -> Result<Vec<T>, Failure<FrameFile>>
+/// A table of so many rows.
+fn table_of<T: Copy>(rt: &HostRuntime, row: T, len: usize) -> Result<Vec<T>, Failure<FrameFile>>
     ensures { IfOk result (λ v. length v.items ≡ len) }
 {
     vec![in rt.alloc(); row; len].map_err(no_memory)
 }
 
 /// A table that is just so long.
-fn whole<T, const N: usize>(table: &mut [T]) -> &mut [T; N]
+fn full_table<T, const N: usize>(table: &mut [T]) -> &mut [T; N]
     requires { length table.old ≡ N }
 {
     let Some(table) = table.as_mut_array() else {

@@ -1,5 +1,5 @@
 -- A sheet and its step, read into tables.
-use Rattle.std.proofs.Common.{◌≡◌, ℕ, if◌then◌else◌, List, [], ◌++◌, length, take, drop, Some, None, Ok, Err, Result, is_ok, IfOk, refl, sym, ap, ◌∙◌, subst, append_assoc}
+use Rattle.std.proofs.Common.{◌≡◌, ℕ, if◌then◌else◌, List, [], ◌++◌, length, take, drop, None, Ok, Err, Result, is_ok, IfOk, refl, sym, ap, ◌∙◌, subst, append_assoc}
 use Rattle.std.proofs.Math.Seq.{take-append_seam, take-length}
 use Rattle.sheet.specs.Checks.{first_fit, fault_notice}
 use Rattle.sheet.specs.Faults.{notice_of_sheet}
@@ -15,7 +15,7 @@ use Rattle.step.specs.declared.faults.StepFault.{StepFault}
 use Rattle.step.proofs.LayAnswers.{length_with_ends}
 use Rattle.printout.specs.Memory.{plan}
 use Rattle.printout.specs.Plans.{Plan, draft, sheet_fault, step_fault, resting_points, moving_points, faces}
-use Rattle.page.specs.Shown.{shown, Shows}
+use Rattle.page.specs.Shown.{shown, TellsRows}
 
 front : {X : Type 0} (rows table : List X) (n : ℕ) → n ≡ length rows → take n (onto_front rows table) ≡ rows
 front rows table n e = ap (λ k. take k (onto_front rows table)) e ∙ take-append_seam rows (drop (length rows) table)
@@ -28,10 +28,12 @@ module _ (text bytes : List ℕ) (ps : List Point) (fs : List Face) (m : length 
   fault_is : sheet_fault p ≡ fault_notice notice_of_sheet r
   fault_is = sym (λ i. first_fit (sheet_checks text (m i) (n i))) ∙ sym told
 
-  pub shows_none : (x : SheetFault) (qs : List Point) (gs : List Face) → r ≡ Err x → Shows (shown p) qs gs (record { code = 1; points = 0; faces = 0 })
+  none : {vs : List Point} {hs : List Face} → TellsRows (record { code = 1; points = []; faces = [] }) vs hs (record { code = 1; points = 0; faces = 0 })
+  none = record { code = refl; points = refl; faces = refl; point_count = refl; face_count = refl }
+
+  pub tells_none : (x : SheetFault) (qs : List Point) (gs : List Face) → r ≡ Err x → TellsRows (shown p) qs gs (record { code = 1; points = 0; faces = 0 })
   unfolding shown
-  shows_none x qs gs is =
-      rw (fault_is ∙ ap (fault_notice notice_of_sheet) is) (record { code = refl; points = refl; faces = refl; point_count = refl; face_count = refl })
+  tells_none x qs gs is = rw (fault_is ∙ ap (fault_notice notice_of_sheet) is) none
 
   module _ (d : Draft) (is : r ≡ Ok d) (draft_is : IfOk r (λ e. e ≡ draft_of text)) (qs : List Point) (gs : List Face)
       (qs_is : qs ≡ (if is_ok r then onto_front (points_in (numbered text)) ps else ps)) (gs_is : gs ≡ (if is_ok r then onto_front (faces_in (numbered text)) fs else fs)) where
@@ -66,17 +68,9 @@ module _ (text bytes : List ℕ) (ps : List Point) (fs : List Face) (m : length 
       rows_by : (y : Result (Unit {0}) StepFault) → laid ≡ y → rows ≡ (if is_ok y then onto_front (with_ends (take d.points (resting_points p)) bytes) (resting_points p) else resting_points p)
       rows_by y e = rows_is ∙ (λ i. if is_ok (e i) then onto_front (with_ends (take d.points (cut i)) bytes) (cut i) else cut i)
 
-      pub shows_rest : (x : StepFault) → laid ≡ Err x → Shows (shown p) (rows ++ rest) gs (record { code = 2; points = d.points; faces = d.faces })
+      pub tells_none_laid : (x : StepFault) (vs : List Point) (hs : List Face) → laid ≡ Err x → TellsRows (shown p) vs hs (record { code = 1; points = 0; faces = 0 })
       unfolding shown
-      shows_rest x e =
-          rw clean (rw (step_is ∙ ap (fault_notice notice_of_step) e)
-          (record {
-            code = refl;
-            points = ap (λ l. take d.points (l ++ rest)) (rows_by (Err x) e) ∙ ap (λ j. take j (resting_points p ++ rest)) count ∙ take-append_seam (resting_points p) rest;
-            faces = faces_are;
-            point_count = count;
-            face_count = ap (λ (h : Draft). h.faces) d_is;
-          }))
+      tells_none_laid x vs hs e = rw clean (rw (step_is ∙ ap (fault_notice notice_of_step) e) none)
 
       moves : with_ends (take d.points (resting_points p)) bytes ≡ moving_points p
       moves = ap (λ l. with_ends l bytes) (ap (λ j. take j (resting_points p)) count ∙ take-length (resting_points p))
@@ -84,9 +78,9 @@ module _ (text bytes : List ℕ) (ps : List Point) (fs : List Face) (m : length 
       moving_count : d.points ≡ length (moving_points p)
       moving_count = count ∙ sym (length_with_ends (resting_points p) bytes)
 
-      pub shows_step : (x : Unit {0}) → laid ≡ Ok x → Shows (shown p) (rows ++ rest) gs (record { code = 0; points = d.points; faces = d.faces })
+      pub tells_step : (x : Unit {0}) → laid ≡ Ok x → TellsRows (shown p) (rows ++ rest) gs (record { code = 0; points = d.points; faces = d.faces })
       unfolding shown
-      shows_step x e =
+      tells_step x e =
           let later = drop (length (moving_points p)) (resting_points p) in
           rw clean (rw (step_is ∙ ap (fault_notice notice_of_step) e)
           (record {

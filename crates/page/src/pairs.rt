@@ -46,7 +46,7 @@ pub extern "C" fn page_near(
     let mut tables = Tables::new();
     let paired = pair_in_memory(
         &mut tables,
-        &mut room.pairs,
+        &mut room.near,
         &mut room.bytes,
         sheet,
         step,

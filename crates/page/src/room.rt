@@ -2,16 +2,16 @@
 ghost use Rattle.std.specs.Prelude.{◌≡◌};
 
 use near_faces::Pair;
-use pairing::{PAIR_BYTES, PAIRS};
+use pairing::{PAIR_BYTES, PAIR_LIMIT};
 
 /// Tables for as many pairs as an inspection accepts, and twice for their bytes. What they hold does
 /// not matter.
 #[repr(C)]
 #[derive(Drop)]
 pub struct Room {
-    pub pairs: [Pair; PAIRS],
+    pub near: [Pair; PAIR_LIMIT],
     pub bytes: [u8; PAIR_BYTES],
-    pub found: [u8; PAIR_BYTES],
+    pub offered: [u8; PAIR_BYTES],
 }
 
 /// How many bytes a room has.

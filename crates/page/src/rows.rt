@@ -2,22 +2,22 @@
 ghost use Rattle.std.specs.Prelude.{◌≡◌, ◌≤◌, [], length, take};
 ghost use Rattle.sheet.specs.Sheet.{point_limit, face_limit, onto_front};
 ghost use Rattle.printout.specs.Memory.{plan};
-ghost use Rattle.page.specs.Shown.{shown, Shows};
+ghost use Rattle.page.specs.Shown.{shown, TellsRows};
 
 use sheet::{Draft, FACE_LIMIT, Face, POINT_LIMIT, Point, read_sheet};
 use step::lay;
 
-/// How many rows there are: 0 of the sheet with its step, 1 none, since the sheet has a fault, 2 of
-/// the sheet at rest, since the step has one.
+/// How reading ended, 0 with these rows or 1 with none, since the sheet or its step has a fault; and
+/// how many points and faces there are.
 #[repr(C)]
 #[derive(Clone, Copy, Debug, PartialEq, Eq)]
-pub struct Rows {
+pub struct RowCounts {
     pub code: u32,
     pub points: usize,
     pub faces: usize,
 }
 
-/// Reads a sheet and its step for a picture: puts the rows into the front of these tables, as far as
+/// Reads a sheet with its step for a picture: puts the rows into the front of these tables, as far as
 /// they have room.
 #[unsafe(no_mangle)]
 pub extern "C" fn page_sheet(
@@ -25,7 +25,7 @@ pub extern "C" fn page_sheet(
     step: &[u8],
     points: &mut [Point],
     faces: &mut [Face],
-) -> Rows
+) -> RowCounts
     ensures code { let s = shown (plan sheet.now step.now []) in
         result.code ≡ s.code }
     ensures point_count { let s = shown (plan sheet.now step.now []) in
@@ -39,42 +39,46 @@ pub extern "C" fn page_sheet(
 {
     let mut all_points = [Point::default(); POINT_LIMIT as usize];
     let mut all_faces = [Face::default(); FACE_LIMIT as usize];
-    let rows = read_rows(sheet, step, &mut all_points, &mut all_faces);
-    put_front(&all_points[..rows.points], points);
-    put_front(&all_faces[..rows.faces], faces);
-    rows
+    let counts = read_rows(sheet, step, &mut all_points, &mut all_faces);
+    put_front(&all_points[..counts.points], points);
+    put_front(&all_faces[..counts.faces], faces);
+    counts
 }
 
 /// Reads a sheet and its step into tables of the full limits.
-fn read_rows(sheet: &[u8], step: &[u8], points: &mut [Point], faces: &mut [Face]) -> Rows
+fn read_rows(sheet: &[u8], step: &[u8], points: &mut [Point], faces: &mut [Face]) -> RowCounts
     requires points { length points.old ≡ point_limit }
     requires faces { length faces.old ≡ face_limit }
-    ensures shows { Shows (shown (plan sheet.now step.now [])) points.new faces.new result }
+    ensures rows { TellsRows (shown (plan sheet.now step.now [])) points.new faces.new result }
     ensures few_points { result.points ≤ length points.new }
     ensures few_faces { result.faces ≤ length faces.new }
 {
     let Ok(draft) = read_sheet(sheet, points, faces) else {
-        return Rows {
-            code: 1,
-            points: 0,
-            faces: 0,
-        };
+        return RowCounts::NONE;
     };
     let rows = &mut points[..usize::from(draft.points())];
     match lay(&draft, step, rows) {
-        Ok(()) => rows_of(0, &draft),
-        Err(_) => rows_of(2, &draft),
+        Ok(()) => RowCounts::of(&draft),
+        Err(_) => RowCounts::NONE,
     }
 }
 
-/// The rows that a draft counts.
-fn rows_of(code: u32, draft: &Draft) -> Rows
-    ensures { result ≡ record { code = code; points = draft.now.points; faces = draft.now.faces } }
-{
-    Rows {
-        code,
-        points: usize::from(draft.points()),
-        faces: usize::from(draft.faces()),
+impl RowCounts {
+    const NONE: RowCounts = RowCounts {
+        code: 1,
+        points: 0,
+        faces: 0,
+    };
+
+    /// The rows that a draft counts.
+    fn of(draft: &Draft) -> RowCounts
+        ensures { result ≡ record { code = 0; points = draft.now.points; faces = draft.now.faces } }
+    {
+        RowCounts {
+            code: 0,
+            points: usize::from(draft.points()),
+            faces: usize::from(draft.faces()),
+        }
     }
 }
 

@@ -47,11 +47,11 @@ pub extern "C" fn page_frames(
 {
     let mut tables = Tables::new();
     let Room {
-        pairs,
+        near,
         bytes,
-        found,
+        offered,
     } = room;
-    let account = inspect_frames(&mut tables, pairs, bytes, found, start, end, text, refused);
+    let account = inspect_frames(&mut tables, near, bytes, offered, start, end, text, refused);
     Accounted {
         code: code_of_frames(account.ending),
         refused: refused_in(account.ending),

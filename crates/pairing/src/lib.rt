@@ -13,4 +13,4 @@ mod writing;
 
 pub use memory::{Paired, pair_in_memory};
 pub use plans::pair_plan;
-pub use tables::{PAIR_BYTES, PAIRS, Tables};
+pub use tables::{PAIR_BYTES, PAIR_LIMIT, Tables};

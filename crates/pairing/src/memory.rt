@@ -7,7 +7,7 @@ ghost use Rattle.pairing.specs.Works.{Serves};
 ghost use Rattle.pairing.specs.Memory.{plan_left};
 
 use crate::plans::pair_plan;
-use crate::tables::{PAIR_BYTES, PAIRS, Tables};
+use crate::tables::{PAIR_BYTES, PAIR_LIMIT, Tables};
 use hosts::{Files, Memory, Page, read_front};
 use near_faces::Pair;
 use printout::{Ending, PlanFile};
@@ -51,10 +51,11 @@ impl Files for SheetAndStep<'_, '_> {
 
 /// Finds the pairs of faces to inspect in a plan in memory: puts their bytes into the front of
 /// `pairs` and the line into the front of `line`, each as far as it has room, and answers how long
-/// they are. A fault has a line and no pairs.
+/// they are. A fault has a line and no pairs. The lent tables `near` and `bytes` are worked in; what
+/// they hold does not matter.
 pub fn pair_in_memory(
     tables: &mut Tables,
-    table: &mut [Pair; PAIRS],
+    near: &mut [Pair; PAIR_LIMIT],
     bytes: &mut [u8; PAIR_BYTES],
     sheet: &[u8],
     step: &[u8],
@@ -81,7 +82,7 @@ pub fn pair_in_memory(
         printed: &mut line,
         stored: &mut kept,
     };
-    let ending = pair_in(tables, table, bytes, &mut memory);
+    let ending = pair_in(tables, near, bytes, &mut memory);
     Paired {
         ending,
         line_len: line.len(),
@@ -93,7 +94,7 @@ pub fn pair_in_memory(
 #[tactic(auto, using(crate::proofs::InMemory::ended, crate::proofs::InMemory::same_line, crate::proofs::InMemory::same_kept))]
 fn pair_in(
     tables: &mut Tables,
-    table: &mut [Pair; PAIRS],
+    near: &mut [Pair; PAIR_LIMIT],
     bytes: &mut [u8; PAIR_BYTES],
     memory: &mut Memory<'_, '_, '_, '_, SheetAndStep<'_, '_>>,
 ) -> Ending
@@ -109,7 +110,7 @@ fn pair_in(
     ensures same_line { memory.new.printed.ghost_name ≡ memory.old.printed.ghost_name }
     ensures same_kept { memory.new.stored.ghost_name ≡ memory.old.stored.ghost_name }
 {
-    match pair_plan(tables, table, bytes, memory) {
+    match pair_plan(tables, near, bytes, memory) {
         Ok(ending) => ending,
         Err(never) => match never {},
     }

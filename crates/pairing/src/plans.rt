@@ -3,7 +3,7 @@ ghost use Rattle.pairing.specs.Works.{FindsPairs};
 
 use crate::finding::pair_sheet;
 use crate::reading::read_plan;
-use crate::tables::{PAIR_BYTES, PAIRS, Tables};
+use crate::tables::{PAIR_BYTES, PAIR_LIMIT, Tables};
 use crate::telling::tell_fault;
 use hosts::Host;
 use near_faces::Pair;
@@ -15,7 +15,7 @@ use printout::{Ending, PlanFile};
 #[tactic(auto, using(crate::proofs::Runs::unread, crate::proofs::Runs::faulty, crate::proofs::Runs::searched))]
 pub fn pair_plan<H: Host<File = PlanFile>>(
     tables: &mut Tables,
-    pairs: &mut [Pair; PAIRS],
+    near: &mut [Pair; PAIR_LIMIT],
     bytes: &mut [u8; PAIR_BYTES],
     host: &mut H,
 ) -> Result<Ending, H::Error>
@@ -29,7 +29,7 @@ pub fn pair_plan<H: Host<File = PlanFile>>(
         nodes,
     } = tables;
     match read_plan(text, step, points, faces, host)? {
-        Ok(draft) => pair_sheet(&draft, points, faces, nodes, pairs, bytes, host),
+        Ok(draft) => pair_sheet(&draft, points, faces, nodes, near, bytes, host),
         Err(notice) => tell_fault(notice, host),
     }
 }

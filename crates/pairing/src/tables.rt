@@ -13,10 +13,10 @@ const RECORD_ROOM: usize = 7 * POINT_LIMIT as usize + 1;
 const NODES: usize = 2 * FACE_LIMIT as usize - 1;
 
 /// As many pairs as an inspection accepts.
-pub const PAIRS: usize = 1_000_000;
+pub const PAIR_LIMIT: usize = 1_000_000;
 
-/// Their bytes.
-pub const PAIR_BYTES: usize = 4 * PAIRS;
+/// The length of so many pairs in bytes.
+pub const PAIR_BYTES: usize = 4 * PAIR_LIMIT;
 
 /// Tables of the full limits: for a plan's text, its record, its rows and the tree over its faces.
 #[derive(Drop)]

@@ -5,7 +5,7 @@ use crate::paths::Paths;
 use crate::runs::pair_on_disk;
 use files::{Machine, OnDisk, site_name, tell};
 use near_faces::Pair;
-use pairing::{PAIR_BYTES, PAIRS, Tables};
+use pairing::{PAIR_BYTES, PAIR_LIMIT, Tables};
 use plans::status;
 use std::alloc::{AllocError, Global};
 
@@ -15,10 +15,10 @@ pub fn pair_folder(rt: &HostRuntime, folder: &str) -> u8
     ensures { result ≤ 1 }
 {
     let alloc = rt.alloc();
-    let (Ok(paths), Ok(mut pairs), Ok(mut bytes)) = (
+    let (Ok(paths), Ok(mut near), Ok(mut bytes)) = (
         Paths::in_folder(alloc, folder),
-        table(alloc, Pair::default(), PAIRS),
-        table(alloc, 0, PAIR_BYTES),
+        table_of(alloc, Pair::default(), PAIR_LIMIT),
+        table_of(alloc, 0, PAIR_BYTES),
     ) else {
         tell(rt, "memory", "out of memory");
         return 1;
@@ -32,22 +32,27 @@ pub fn pair_folder(rt: &HostRuntime, folder: &str) -> u8
         }
     };
     let mut plan = OnDisk { disk, paths };
-    let run = pair_on_disk(&mut tables, whole(&mut pairs), whole(&mut bytes), &mut plan);
+    let run = pair_on_disk(
+        &mut tables,
+        full_table(&mut near),
+        full_table(&mut bytes),
+        &mut plan,
+    );
     if let Err(failure) = &run {
         tell(rt, site_name(&plan.paths, failure.site), failure.reason);
     }
     status(&run)
 }
 
-/// So many rows.
-fn table<T: Copy>(alloc: Global, row: T, len: usize) -> Result<Vec<T>, AllocError>
+/// A table of so many rows.
+fn table_of<T: Copy>(alloc: Global, row: T, len: usize) -> Result<Vec<T>, AllocError>
     ensures { IfOk result (λ v. length v.items ≡ len) }
 {
     vec![in alloc; row; len]
 }
 
 /// A table that is just so long.
-fn whole<T, const N: usize>(table: &mut [T]) -> &mut [T; N]
+fn full_table<T, const N: usize>(table: &mut [T]) -> &mut [T; N]
     requires { length table.old ≡ N }
 {
     let Some(table) = table.as_mut_array() else {

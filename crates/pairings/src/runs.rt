@@ -4,7 +4,7 @@ ghost use Rattle.pairings.specs.Runs.{PairsFolder};
 use crate::paths::Paths;
 use files::{Disk, OnDisk};
 use near_faces::Pair;
-use pairing::{PAIR_BYTES, PAIRS, Tables, pair_plan};
+use pairing::{PAIR_BYTES, PAIR_LIMIT, Tables, pair_plan};
 use printout::{Ending, PlanFile};
 
 /// Finds the pairs of the plan whose files are placed on a disk. Pairs that were stored are kept
@@ -12,12 +12,12 @@ use printout::{Ending, PlanFile};
 #[tactic(auto, using(crate::proofs::OnDisk::ended))]
 pub fn pair_on_disk<D: Disk<PlanFile>>(
     tables: &mut Tables,
-    pairs: &mut [Pair; PAIRS],
+    near: &mut [Pair; PAIR_LIMIT],
     bytes: &mut [u8; PAIR_BYTES],
     plan: &mut OnDisk<D, Paths>,
 ) -> Result<Ending, D::Error>
     ensures { PairsFolder D.does D.fails plan.old result plan.new }
 {
-    let work = pair_plan(tables, pairs, bytes, plan);
+    let work = pair_plan(tables, near, bytes, plan);
     plan.end(work)
 }

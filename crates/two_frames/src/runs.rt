@@ -14,7 +14,7 @@ use crate::tables::Tables;
 use frames::{Recording, record_frames};
 use hosts::copy_front;
 use near_faces::Pair;
-use pairing::{PAIR_BYTES, PAIRS, pair_in_memory};
+use pairing::{PAIR_BYTES, PAIR_LIMIT, pair_in_memory};
 use printout::{Ending, inspect_bytes};
 
 /// How a run ends, and how long is what it prints, in bytes.
@@ -33,9 +33,9 @@ pub struct Accounted {
 /// worked in, all 12 million bytes; what they hold does not matter.
 pub fn inspect_frames(
     tables: &mut Tables,
-    table: &mut [Pair; PAIRS],
+    near: &mut [Pair; PAIR_LIMIT],
     bytes: &mut [u8; PAIR_BYTES],
-    found: &mut [u8; PAIR_BYTES],
+    offered: &mut [u8; PAIR_BYTES],
     start: &[u8],
     end: &[u8],
     page: &mut [u8],
@@ -58,11 +58,11 @@ pub fn inspect_frames(
             let rest = inspect_sheet(
                 &mut tables.pairing,
                 &mut tables.plan,
-                table,
+                near,
                 bytes,
                 start,
                 step,
-                found,
+                offered,
                 &mut page[shown..],
                 refused,
             );
@@ -83,7 +83,7 @@ pub fn inspect_frames(
 fn inspect_sheet(
     pairing: &mut pairing::Tables,
     plan: &mut printout::Tables,
-    table: &mut [Pair; PAIRS],
+    near: &mut [Pair; PAIR_LIMIT],
     bytes: &mut [u8; PAIR_BYTES],
     sheet: &[u8],
     step: &[u8],
@@ -99,7 +99,7 @@ fn inspect_sheet(
         ≡ min (length (searched sheet.now step.now).text) (2 ^ 64 - 1) }
     ensures claims { ClaimsOfPlan (paired_plan sheet.now step.now) result.ending }
 {
-    let paired = pair_in_memory(pairing, table, bytes, sheet, step, pairs, page);
+    let paired = pair_in_memory(pairing, near, bytes, sheet, step, pairs, page);
     let line_len = paired.line_len;
     match paired.ending {
         Ending::Complete => {
