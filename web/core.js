@@ -104,7 +104,7 @@ export function coreOf(wasm) {
       return { code: answer.code, refused: answer.first, refusedPairs: bytesOf(answer.front(4, 4 * refused)), text: answer.text };
     },
 
-    // the tables of a plan: six coordinates a point, its start and its end; three corners a face. None where the sheet (code 1) or its step (2) has a fault.
+    // the tables of a plan: six coordinates a point, its start and its end; three corners a face. None, and code 1, where the sheet or its step has a fault.
     sheet(sheet, step) {
       const answer = call('page_sheet', given(sheet), given(step), lent(MOST_POINTS, 12), lent(MOST_FACES, 6));
       if (answer.code !== 0) return { code: answer.code, points: new Int16Array(0), faces: new Uint16Array(0) };
