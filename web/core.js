@@ -77,7 +77,7 @@ export function coreOf(wasm) {
   return {
     // what `inspect` prints of a plan, and the pairs that it refused. Code 0: complete, 1: a fault ended the run.
     inspect(sheet, step, pairs) {
-      const answer = print('page_inspect', (a) => a.first, [given(sheet), given(step), given(pairs)], 3, [lent(pairs.length)], pairs.length >> 2);
+      const answer = print('page_inspect', (a) => a.first, [given(sheet), given(step), given(pairs)], 3, [lent(pairs.length)], Math.floor(pairs.length / 4));
       return { code: answer.code, text: answer.text, refused: bytesOf(answer.front(4, answer.second)) };
     },
 

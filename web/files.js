@@ -79,8 +79,9 @@ export function takenAs(sorted) {
 
 export const swapped = (sorted) => ({ ...sorted, start: sorted.end, end: sorted.start, by: 'swapped' });
 
-// How much of a file is to be read: what is longer is refused whatever follows.
+// How much of a file is to be read: what is longer is refused whatever follows. Of a file that has no use nothing is.
 export function readLimit(name) {
   if (/\.obj$/i.test(name)) return 65537;
-  return baseOf(name) === 'step.bin' ? 14337 : Infinity;
+  if (baseOf(name) === 'step.bin') return 14337;
+  return ['pairs.bin', 'refused.bin'].includes(baseOf(name)) ? Infinity : 0;
 }

@@ -19,7 +19,8 @@ let sorted = null; // the files that are shown or inspected
 let chosen = -1;
 let addresses = [];
 let clock = 0;
-let begun = 0;
+let since = 0; // when the run began
+let came = 0; // how often files came: where they come while others are read, the last are taken
 
 function say(text) { $('state').textContent = text; }
 function setState(state, text) { dataset.state = state; say(text); }
@@ -38,15 +39,16 @@ async function begin() {
   const tries = hasWasm ? modulesToTry({ can64, only32: location.hash === '#32', given64: given[64] !== '', given32: given[32] !== '' }) : [];
   let failure = 'it is not there';
   for (const bits of tries) {
+    let tried = null;
     try {
-      keeper = makeKeeper(embedded('worker'), bytesOfBase64(given[bits]));
-      await keeper.start();
+      tried = makeKeeper(embedded('worker'), bytesOfBase64(given[bits]));
+      await tried.start();
+      keeper = tried;
       dataset.module = String(bits);
       break;
     } catch (error) {
       failure = error.message;
-      if (keeper) keeper.end();
-      keeper = null;
+      if (tried) tried.end();
     }
   }
   if (!keeper) {
@@ -61,16 +63,19 @@ async function begin() {
 
 // ---- files
 async function take(files) {
-  if (!keeper) return;
+  const mine = ++came;
+  let what;
   try {
-    const read = await readFiles(await files);
-    receive(sortFiles(read));
+    what = sortFiles(await readFiles(await files));
   } catch (error) {
-    receive({ kind: 'wrong', why: `The files could not be read: ${error.message}. Drop the files themselves, or choose them.` });
+    what = { kind: 'wrong', why: `The files could not be read: ${error.message}. Drop the files themselves, or choose them.` };
   }
+  await begun;
+  if (keeper && mine === came) receive(what);
 }
 
 function receive(what) {
+  came += 1;
   stopWork();
   clear();
   if (what.kind === 'wrong') { setState('ready', what.why); return; }
@@ -103,28 +108,33 @@ async function run(what) {
       say(`${told.doing}.`);
     });
     if (job !== mine) return;
-    const took = performance.now() - begun;
+    show(what, result, film, performance.now() - since);
     endWork();
-    show(what, result, film, took);
   } catch (error) {
     if (job !== mine) return;
-    endWork();
-    keeper.stop().catch(() => {});
-    setState('stopped', `The module stopped: ${error.message}. Nothing is said of these files.`);
+    stopWork();
+    clear();
+    setState('stopped', `The run stopped: ${error.message}. Nothing is said of these files.`);
   }
 }
 
-function tick() { $('elapsed').textContent = `${((performance.now() - begun) / 1000).toFixed(1)} s`; }
+function tick() { $('elapsed').textContent = `${((performance.now() - since) / 1000).toFixed(1)} s`; }
 
 function startClock() {
-  begun = performance.now();
+  since = performance.now();
   $('work').hidden = false;
   tick();
   clock = setInterval(tick, 100);
 }
 
+// What has the focus is about to be hidden: then the state takes it.
+function leave(element) {
+  if (element.contains(document.activeElement)) $('state').focus();
+}
+
 function endWork() {
   job = null;
+  leave($('work'));
   clearInterval(clock);
   $('work').hidden = true;
 }
@@ -138,6 +148,7 @@ function stopWork() {
 
 function clear() {
   chosen = -1;
+  leave($('found'));
   for (const id of ['taken', 'verdict-box', 'fault', 'found', 'listed', 'refusals', 'counted']) $(id).hidden = true;
   for (const id of ['verdict', 'notes', 'fault', 'counts', 'entries', 'refused', 'report', 'downloads']) $(id).replaceChildren();
   addresses.forEach((address) => URL.revokeObjectURL(address));
@@ -208,7 +219,7 @@ $('entries').addEventListener('keydown', step);
 $('past').addEventListener('click', () => $('report').focus());
 $('files').addEventListener('change', (event) => { take(chosenFiles(event.target.files)); event.target.value = ''; });
 $('folder').addEventListener('change', (event) => { take(chosenFiles(event.target.files)); event.target.value = ''; });
-$('example').addEventListener('click', () => { if (keeper) example(); });
+$('example').addEventListener('click', async () => { await begun; if (keeper) example(); });
 $('swap').addEventListener('click', () => { if (sorted) receive(swapped(sorted)); });
 $('stop').addEventListener('click', () => { if (stopWork()) { clear(); setState('stopped', 'Stopped. Nothing is said of these files.'); } });
 
@@ -226,4 +237,4 @@ addEventListener('dragover', (event) => drag(event, 0));
 addEventListener('dragleave', (event) => drag(event, -1));
 addEventListener('drop', (event) => { if (drag(event, -over)) take(droppedFiles(event.dataTransfer)); });
 
-begin();
+const begun = begin();

@@ -15,6 +15,10 @@ ASK_FOLDERS = """async (folders) => {
   }
   return answers;
 }"""
+SLOW_FILES = """(() => {
+  const slow = (name) => ({ name, file: { size: 1, arrayBuffer: () => new Promise((done) => setTimeout(() => done(new ArrayBuffer(1)), 1500)) } });
+  take([slow('a.obj'), slow('b.obj')]);
+})()"""
 ASK_FRAMES = """async (folders) => {
   const unpack = (it) => Uint8Array.from(atob(it), (c) => c.charCodeAt(0));
   const answers = [];
@@ -305,6 +309,12 @@ def run_upon_run(bench):
     page.rest(0.3)
     bench.inspects(page, "the last", EXAMPLE / "sheet.obj", EXAMPLE / "next.obj")
     same("the finished runs", bench.runs(page), 1)
+    # files that are still being read when others come, and are read later than these
+    page.evaluate(SLOW_FILES)
+    bench.example(page)
+    page.rest(1.5)
+    same("the finished runs", (bench.state(page), bench.runs(page)), ("done", 2))
+    bench.inspects(page, "the last", EXAMPLE / "sheet.obj", EXAMPLE / "next.obj")
     bench.close(page)
 
 

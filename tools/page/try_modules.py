@@ -2,7 +2,7 @@
 
 import re
 
-from bench import EXAMPLE, PLAN, TOP, holds, packed, same
+from bench import CROSSING_END, CROSSING_START, EXAMPLE, PLAN, TOP, holds, packed, same
 from modules import imported, named, opened
 from try_answers import ASK_FOLDERS
 
@@ -92,8 +92,33 @@ def damaged(bench):
         bench.close(page)
 
 
+def failing(bench):
+    """A call that fails, and what fails after it: both are told, nothing of the run is shown, and a new worker does the next run."""
+    text = bench.html.read_text()
+    begins = "function call(name, ...areas) {"
+    shows = "stage.show(film, report.entries);"
+    holds("the page has another form", text.count(begins) == 1 and text.count(shows) == 1)
+    dead = f"let dead = false; {begins} dead = dead || name === 'page_inspect'; if (dead) throw new RangeError('no memory');"
+    pages = {
+        "in the worker": text.replace(begins, dead),
+        "in the page": text.replace(shows, "if (what.kind === 'plan') throw new Error('no memory'); " + shows),
+    }
+    start, end = bench.frames("crossing", CROSSING_START, CROSSING_END)
+    for name, changed in pages.items():
+        page = bench.page(html=bench.file("failing.html", changed))
+        for _ in range(2):
+            page.choose_files("#files", [EXAMPLE / it for it in PLAN])
+            page.wait("document.body.dataset.state === 'stopped'", 5)
+            same(f"{name}: what is told", bench.text(page, "#state"), "The run stopped: no memory. Nothing is said of these files.")
+            same(f"{name}: what is shown", [it for it in ("#work", "#verdict-box", "#found", "#fault", "#bar") if bench.seen(page, it)], [])
+            bench.choose(page, start, end)
+            bench.inspects(page, "the next run", start, end)
+        bench.close(page)
+
+
 tests = [
     ("the modules' own tests", own_tests),
+    ("a run that fails", failing),
     ("the module of 32 bits", narrow),
     ("a page that cannot work", damaged),
 ]

@@ -55,6 +55,7 @@ export const tests = [
     equal(kindOf('a.obj', 'b.obj', 'c.obj').why, `Three OBJ files were given: a.obj, b.obj and c.obj. ${WANTED}`);
   }],
   ['how much is read', () => {
-    equal([readLimit('a.OBJ'), readLimit('x/step.bin'), readLimit('pairs.bin')], [65537, 14337, Infinity]);
+    equal([readLimit('a.OBJ'), readLimit('x/step.bin'), readLimit('film.mp4')], [65537, 14337, 0]);
+    holds([readLimit('pairs.bin'), readLimit('refused.bin')].every((limit) => limit === Infinity), 'pairs are read to their end');
   }],
 ];
