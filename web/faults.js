@@ -8,7 +8,7 @@ const MANY = (n) => n.toLocaleString('en');
 
 // The lines of a text, as the program cuts it: by line feeds.
 export function linesOf(bytes) {
-  return new TextDecoder().decode(bytes).split('\n');
+  return new TextDecoder('utf-8', { ignoreBOM: true }).decode(bytes).split('\n');
 }
 
 // The number, from 1, of the line that has the point or the face i; 0 where there is none.
@@ -30,10 +30,10 @@ export function fieldsOf(line) {
   return [rest.slice(0, first), rest.slice(first + 1, second), rest.slice(second + 1)];
 }
 
-// A line for the eye: what cannot be seen gets a sign, and a long one is cut.
+// A line for the eye: what cannot be seen gets a sign, also a byte order mark, and a long one is cut.
 export function seen(line, longest = 160) {
   const cut = line.length > longest ? `${line.slice(0, longest)} ..` : line;
-  return cut.replace(/[\u0000-\u001f\u007f]/g, (c) => String.fromCharCode(c === '\u007f' ? 0x2421 : 0x2400 + c.charCodeAt(0)));
+  return cut.replace(/[\u0000-\u001f\u007f\ufeff]/g, (c) => ({ '\u007f': '\u2421', '\ufeff': '\ufffd' })[c] ?? String.fromCharCode(0x2400 + c.charCodeAt(0)));
 }
 
 // Where a field of a line stands: its first place and its length.
@@ -74,6 +74,7 @@ function adviceOnField(line, value, isPoint) {
 }
 
 function adviceOnLine(line) {
+  if (line.startsWith('\ufeff')) return ' It begins with a byte order mark: save the file without one.';
   if (/^\s*\r?$/.test(line) && line !== '') return ' It has nothing but spaces or a carriage return.';
   if (/^(vn|vt|vp|o|g|s|l|usemtl|mtllib)(\s|$)/.test(line)) return ' Export the points and faces alone, without normals, texture, groups or materials.';
   return '';

@@ -40,6 +40,8 @@ export const tests = [
     holds(told('fault 1 field 1 1', 'f 1/1 2/2 3/3\n').words.includes('f 1 2 3'), 'slashes');
     equal(told('fault 1 field 1 3', 'v 0 0\n').words, 'The third field is missing.');
     holds(told('fault 1 field 1 3', 'v 0 0 0 0\n').words.includes('three fields'), 'four fields');
+    const marked = told('fault 2 line 1 0', '\ufeffv 0 0 0\n');
+    holds(marked.words.includes('byte order mark') && seen(marked.places[0].text) === '\ufffdv 0 0 0', 'a byte order mark');
     holds(!told('fault 2 line 1 0', 'x\n').words.includes('Export'), 'no advice where there is no reason');
   }],
   ['a fault of a step tells the point of the sheet', () => {
