@@ -23,6 +23,7 @@ export function listenToHands(canvas, { free, seeAll, whole }) {
     pointers.set(event.pointerId, { x: event.clientX, y: event.clientY });
   });
   canvas.addEventListener('pointermove', (event) => {
+    if (!event.buttons) pointers.delete(event.pointerId); // let go of where it was not seen, as over a menu
     const last = pointers.get(event.pointerId);
     if (!last) return;
     const before = pointers.size === 2 ? pinch() : null;

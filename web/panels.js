@@ -88,7 +88,7 @@ export function showFault(box, { title, words, printed, places }) {
   for (const { file, line, field, text } of places) {
     const where = [file, line && `line ${line}`, field && `field ${field}`].filter(Boolean).join(', ');
     parts.push(make('p', { class: 'where' }, where));
-    if (line) parts.push(make('pre', { class: 'line', tabindex: '0', 'aria-label': `Line ${line} of ${file}` }, make('span', { class: 'number' }, String(line)), ...markedLine(text, field)));
+    if (line) parts.push(make('pre', { class: 'line', role: 'group', tabindex: '0', 'aria-label': `Line ${line} of ${file}` }, make('span', { class: 'number' }, String(line)), ...markedLine(text, field)));
   }
   parts.push(make('p', { class: 'printed' }, 'Printed is ', make('code', {}, printed)));
   box.replaceChildren(...parts);

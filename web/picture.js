@@ -4,7 +4,7 @@ import { FILM_ROW, STRIP_ROW, DOT_ROW, filmRows, edgesOf, markRows, joinedRanges
 import { DOT_FRAGMENT, DOT_VERTEX, FILM_FRAGMENT, FILM_VERTEX, PLAIN_FRAGMENT, PLAIN_VERTEX, STRIP_VERTEX } from './shaders.js';
 import { axesOf, matrixOf, placeIn } from './turning.js';
 
-export const MARKS = { VF: [209 / 255, 52 / 255, 47 / 255], EE: [224 / 255, 123 / 255, 0] };
+const MARKS = { VF: [209 / 255, 52 / 255, 47 / 255], EE: [224 / 255, 123 / 255, 0] };
 const PATCH_SHARE = 0.32;
 const LIGHT = [0.42, -0.3, 0.86];
 

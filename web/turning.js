@@ -7,7 +7,7 @@ export const cross = (a, b) => [a[1] * b[2] - a[2] * b[1], a[2] * b[0] - a[0] * 
 export const norm = (a) => Math.hypot(a[0], a[1], a[2]);
 const between = (least, x, greatest) => Math.max(least, Math.min(greatest, x));
 
-export const STEEPEST = Math.PI / 2;
+const STEEPEST = Math.PI / 2;
 const TILT = 0.5; // so that what goes through a face is seen to do so
 
 // Where right, up and the viewer are.

@@ -179,9 +179,31 @@ def dark_and_calm(bench):
     bench.close(page)
 
 
+def given_back(bench):
+    """A picture that the browser has lost is drawn again once it is given back, also where a film came between."""
+    pictures = []
+    for loses in (False, True):
+        page = bench.page()
+        bench.example(page)
+        bench.still(page)
+        if loses:
+            page.evaluate("(() => { globalThis.losing = document.getElementById('view').getContext('webgl').getExtension('WEBGL_lose_context'); losing.loseContext(); })()")
+            page.rest(0.1)
+        bench.drop(page, *folded_through(bench))
+        if loses:
+            page.evaluate("losing.restoreContext()")
+            page.rest(0.1)
+            page.errors.clear()
+        bench.still(page)
+        pictures.append(page.screenshot("#view"))
+        bench.close(page)
+    same("pixels that are not the same", bench.differ(*pictures), 0)
+
+
 def without_pictures(bench):
     """A browser that draws no picture still gets the answer."""
     page = bench.page(before="HTMLCanvasElement.prototype.getContext = () => null;")
+    holds("a picture is promised", bench.seen(page, "#no-picture") and not bench.seen(page, "#empty"))
     start, end = folded_through(bench)
     bench.drop(page, start, end)
     bench.inspects(page, "the folded film", start, end)
@@ -198,6 +220,7 @@ tests = [
     ("what is in front", in_front),
     ("dark colours and less motion", dark_and_calm),
     ("no picture", without_pictures),
+    ("a picture that was lost", given_back),
     ("the picture turned by dragging", turned),
     ("the picture turned by keys", turned_by_keys),
     ("the step played, and moved by keys", played),

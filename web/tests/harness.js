@@ -16,4 +16,3 @@ export function close(got, wanted, what = 'it', by = 1e-9) {
 }
 
 export const textBytes = (text) => new TextEncoder().encode(text);
-export const bytesText = (bytes) => new TextDecoder().decode(bytes);
