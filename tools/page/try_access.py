@@ -13,6 +13,26 @@ FOCUSED = """(() => { const it = document.activeElement; return it && it !== doc
 ROLES = {"button", "link", "slider", "textbox", "checkbox", "radio", "combobox", "listbox", "image", "img", "canvas", "table", "region", "group"}
 MUST_HAVE_NAMES = ROLES - {"table", "region", "group"}
 KEPT = """(async () => [localStorage.length, sessionStorage.length, (await indexedDB.databases()).length, document.cookie])()"""
+OUTLINE = """(() => { const it = document.activeElement; return getComputedStyle(it.matches('input.unseen') ? it.nextElementSibling : it).outlineStyle; })()"""
+# texts that stand out too little from their ground
+FAINT = """(() => {
+  const dot = new OffscreenCanvas(1, 1).getContext('2d', { willReadFrequently: true });
+  const painted = (colours) => {
+    for (const it of colours) { dot.fillStyle = it; dot.fillRect(0, 0, 1, 1); }
+    const [r, g, b] = [...dot.getImageData(0, 0, 1, 1).data].map((it) => (it / 255 <= 0.04045 ? it / 255 / 12.92 : ((it / 255 + 0.055) / 1.055) ** 2.4));
+    return 0.2126 * r + 0.7152 * g + 0.0722 * b + 0.05;
+  };
+  const faint = [];
+  for (const it of document.querySelectorAll('body *')) {
+    if (!it.checkVisibility({ visibilityProperty: true }) || ![...it.childNodes].some((node) => node.nodeType === 3 && node.data.trim())) continue;
+    const grounds = [];
+    for (let at = it; at; at = at.parentElement) grounds.unshift(getComputedStyle(at).backgroundColor);
+    const [ground, text] = [painted(grounds), painted([...grounds, getComputedStyle(it).color])];
+    const ratio = Math.max(ground, text) / Math.min(ground, text);
+    if (ratio < 4.5) faint.push(`${it.outerHTML.slice(0, 80)}: ${ratio.toFixed(1)}`);
+  }
+  return faint;
+})()"""
 REACH = """async (address) => {
   const tries = {
     fetch: () => fetch(`http://${address}/`),
@@ -42,6 +62,7 @@ def elements(bench):
     for it in IDS:
         same(f"elements with the id {it}", page.evaluate("(id) => document.querySelectorAll('#' + CSS.escape(id)).length", it), 1)
     same("the role of #state", page.evaluate("document.getElementById('state').getAttribute('role')"), "status")
+    same("what is told as it comes", page.evaluate("[...document.querySelectorAll('[aria-live=polite]')].map((it) => it.id)"), ["state", "outcome"])
     same("the languages", page.evaluate("document.documentElement.lang"), "en")
     holds("the page has no title", page.evaluate("document.title"))
     bench.close(page)
@@ -60,6 +81,7 @@ def keyboard(bench):
             break
         if at is not None:
             seen.append(at)
+            holds(f"where the focus is on {at} is not seen", page.evaluate(OUTLINE) != "none")
     for it in ("#files", "#example", "#step", "#play", "#entries button", "#downloads a[download='report.txt']"):
         holds(f"{it} cannot be reached by keyboard", page.evaluate("(s) => document.querySelector(s).matches('[data-walk]')", it))
     missed = [it for n, it in enumerate(controls) if str(n) not in seen]
@@ -76,6 +98,20 @@ def keyboard(bench):
     bench.finish(page, lambda: page.press("Enter"))
     bench.close(page)
     return f"{len(controls)} controls"
+
+
+def contrast(bench):
+    """Each text stands out from its ground, in light and in dark colours: where all went well, where an entry is chosen, and at a fault."""
+    for scheme in ("light", "dark"):
+        page = full(bench)
+        page.call("Emulation.setEmulatedMedia", features=[{"name": "prefers-color-scheme", "value": scheme}])
+        page.evaluate("document.querySelector('details').open = true; document.querySelector('#entries button').click()")
+        page.rest(0.3)
+        same(f"faint texts in {scheme} colours", page.evaluate(FAINT), [])
+        bench.choose(page, *bench.frames("fault", CROSSING_START.replace("v 1 1 1", "v 1 x 1"), CROSSING_END))
+        page.rest(0.3)
+        same(f"faint texts of a fault in {scheme} colours", page.evaluate(FAINT), [])
+        bench.close(page)
 
 
 def names(bench):
@@ -205,6 +241,7 @@ tests = [
     ("the page's elements", elements),
     ("everything by keyboard", keyboard),
     ("names for a screen reader", names),
+    ("texts stand out", contrast),
     ("nothing asked of the network", network),
     ("nothing stored", nothing_stored),
     ("downloads", downloads),

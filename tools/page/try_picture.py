@@ -113,6 +113,7 @@ def turned_by_keys(bench):
 
 
 def turned(bench):
+    """The picture turns with the mouse and comes nearer by the wheel; then the whole sheet is seen as before."""
     page = bench.page()
     bench.example(page)
     bench.still(page)
@@ -120,8 +121,45 @@ def turned(bench):
     same("the picture, drawn once more", page.screenshot("#view"), before)
     page.drag("#view", 120, 60)
     bench.still(page)
-    holds("dragging does not turn the picture", bench.differ(before, page.screenshot("#view")) > 1000)
+    dragged = page.screenshot("#view")
+    holds("dragging does not turn the picture", bench.differ(before, dragged) > 1000)
+    page.evaluate("document.getElementById('view').dispatchEvent(new WheelEvent('wheel', { deltaY: -200, cancelable: true }))")
+    bench.still(page)
+    holds("the wheel does not come nearer", bench.differ(dragged, page.screenshot("#view")) > 1000)
+    page.evaluate("document.getElementById('whole').click()")
+    bench.still(page)
+    same("pixels of the whole sheet that are not as before", bench.differ(before, page.screenshot("#view")), 0)
     bench.close(page)
+
+
+def seen_at(bench, start, end, step):
+    """The picture of two frames, in which nothing is listed, at a place of the step."""
+    page = bench.page()
+    bench.drop(page, *bench.frames("seen", start, end))
+    same("the marks", bench.marks(page), [0, 0])
+    move_to(bench, page, step)
+    picture = page.screenshot("#view")
+    bench.close(page)
+    return picture
+
+
+def both_ends(bench):
+    """At the beginning of a step the film is seen as in the first frame, at its end as in the second."""
+    # two faces rest, so that all are seen from the same place; one goes along between them
+    rest = "v -999 -999 -999\nv -799 -999 -999\nv -999 -799 -999\nv 999 999 999\nv 799 999 999\nv 999 799 999\n"
+    start, end = (f"{rest}v {x} 0 0\nv {x + 300} 0 0\nv {x} 300 0\nf 1 2 3\nf 4 5 6\nf 7 8 9\n" for x in (-600, 300))
+    first, last = seen_at(bench, start, end, 0), seen_at(bench, start, end, 1000)
+    holds("the picture is the same at both ends", bench.differ(first, last) > 1000)
+    same("pixels that are not as in the first frame", bench.differ(first, seen_at(bench, start, start, 500)), 0)
+    same("pixels that are not as in the second frame", bench.differ(last, seen_at(bench, end, end, 500)), 0)
+
+
+def edges_drawn(bench):
+    """A square of two faces is seen to be cut along the one diagonal or the other."""
+    points = "v 0 0 0\nv 900 0 0\nv 900 900 0\nv 0 900 0\n"
+    one, other = (seen_at(bench, points + faces, points + faces, 0) for faces in ("f 1 2 3\nf 1 3 4\n", "f 1 2 4\nf 2 3 4\n"))
+    differ = bench.differ(one, other)
+    holds(f"the edges are not seen: {differ} pixels differ", 100 < differ < 10000)
 
 
 def played(bench):
@@ -222,6 +260,8 @@ tests = [
     ("no picture", without_pictures),
     ("a picture that was lost", given_back),
     ("the picture turned by dragging", turned),
+    ("the film at both ends", both_ends),
+    ("the edges of faces", edges_drawn),
     ("the picture turned by keys", turned_by_keys),
     ("the step played, and moved by keys", played),
 ]

@@ -39,6 +39,7 @@ export const tests = [
     showEntries(list, report('VF 3 0 1 2\nEE 1 2 3 4 - -\n').entries, (i) => chosen.push(i));
     const buttons = [...list.querySelectorAll('button')];
     equal(buttons.map((button) => [button.dataset.entry, button.getAttribute('aria-pressed'), button.querySelectorAll('.on').length]), [['0', 'false', 2], ['1', 'false', 0]]);
+    equal(buttons.map((button) => button.textContent), ['Point 3 and face 0 parts 1 to 2', 'Edge 1\u20132 and edge 3\u20134 no part any more']);
     buttons[1].click();
     pressEntry(list, 1);
     equal([chosen, buttons.map((button) => button.getAttribute('aria-pressed'))], [[1], ['false', 'true']]);
