@@ -4,7 +4,6 @@ const FIELDS = ['line as a whole', 'first field', 'second field', 'third field']
 const AXES = ['map', 'x', 'y', 'z'];
 const ENDED = 'The run ended at a fault';
 const DIFFER = 'The frames differ';
-const MANY = (n) => n.toLocaleString('en');
 
 // The lines of a text, as the program cuts it: by line feeds.
 export function linesOf(bytes) {
@@ -44,10 +43,8 @@ export function fieldSpan(line, field) {
   return [Math.min(at, line.length), fields[field - 1].length];
 }
 
-const lengthWords = (bytes) => `The text has ${bytes.length > 65536 ? 'more than 65,536' : MANY(bytes.length)} bytes; a sheet's text has at most 65,536.`;
-
 // Words for a fault of a sheet's text. Advice is added where the reason is plain.
-function ofText(fault, lines, bytes) {
+function ofText(fault, lines) {
   const [number, field] = fault.places;
   const line = lines[number - 1] ?? '';
   const value = field ? seen(fieldsOf(line)[field - 1], 40) : '';
@@ -59,7 +56,7 @@ function ofText(fault, lines, bytes) {
     case 3: return `${the}, \u201c${value}\u201d, is a coordinate outside \u22124,096 to 4,096.`;
     case 4: return `${the}, \u201c${value}\u201d, names no point above the line.`;
     case 5: return `${the}, \u201c${value}\u201d, names a point that an earlier field of the line names.`;
-    case 6: return lengthWords(bytes);
+    case 6: return 'The text has more than 65,536 bytes, which is the most that a sheet has.';
     case 7: return isPoint ? 'There is no room for this point: a sheet has at most 2,048.' : 'There is no room for this face: a sheet has at most 4,096.';
     default: return null;
   }
@@ -116,7 +113,7 @@ export function explainFault(fault, { sheet, step }) {
   const lines = linesOf(sheet.bytes);
   if (['field', 'line', 'sheet'].includes(fault.layer)) {
     const [number, field] = fault.places;
-    return { title: ENDED, words: ofText(fault, lines, sheet.bytes) || unknownWords(fault), printed, places: [shownLine(sheet, lines, number, field)] };
+    return { title: ENDED, words: ofText(fault, lines) || unknownWords(fault), printed, places: [shownLine(sheet, lines, number, field)] };
   }
   const words = faultWords(fault) || unknownWords(fault);
   const places = [];

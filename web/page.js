@@ -4,7 +4,7 @@ import { chosenFiles, droppedFiles, readFiles } from './intake.js';
 import { makeKeeper } from './keeper.js';
 import { bytesOfBase64, has64, modulesToTry, whyNone } from './modules.js';
 import { explainEnding, groundsOf, pressEntry, showCounts, showDownloads, showEntries, showFault, showRefusals, showReport, showVerdict } from './panels.js';
-import { pairsIn } from './report.js';
+import { agrees, pairsIn } from './report.js';
 import { makeStage } from './stage.js';
 import { pairsCount, testsCount, timeWords } from './words.js';
 
@@ -161,8 +161,8 @@ function clear() {
 function show(what, result, film, took) {
   const { report, text, outcome } = result;
   const well = outcome === 'covered' || outcome === 'refused';
-  if (well && (report.unknown.length || !report.counts.VF || !report.counts.EE)) {
-    setState('stopped', 'The report has a line that this page does not understand, so it shows nothing of it.');
+  if (well && !agrees(result)) {
+    setState('stopped', 'The report is not one that this page understands, so it shows nothing of it.');
     return;
   }
   $('found').hidden = false;

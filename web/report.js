@@ -68,6 +68,15 @@ export function readReport(text) {
   return report;
 }
 
+// Whether what is read of a run that ended well agrees: the entries with the counts, the faults with the refused pairs, and
+// both with the lines that two frames alone have.
+export function agrees({ kind, report, refused }) {
+  const { counts, entries, unknown, faultsInAll, step, near, ending } = report;
+  if (unknown.length || !counts.VF || !counts.EE || entries.length !== counts.VF.kept + counts.EE.kept) return false;
+  if (faultsInAll !== pairsIn(refused)) return false;
+  return kind === 'frames' ? Boolean(step && near && ending) && ending.refused === faultsInAll : !step && !near && !ending;
+}
+
 // The text for the eye: whole where it is short, else its front and its back, with a line between that tells how much is
 // left out. The back begins late enough to be short, and has all that follows the refused pairs.
 export function shownReport(text, longest = 200000, front = 20000, back = 100000) {

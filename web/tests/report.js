@@ -1,4 +1,4 @@
-import { MOST_FAULTS, pairAt, pairsIn, readDifference, readFault, readReport, shownReport } from '../report.js';
+import { agrees, MOST_FAULTS, pairAt, pairsIn, readDifference, readFault, readReport, shownReport } from '../report.js';
 import { equal, holds } from './harness.js';
 
 const SMALL = 'step 6 points, 1 moved, 8 bytes\nnear 2 faces, 1 pairs\nVF 3 0 1 2\nVF kept 1 struck 5 shared 0 repeated 0\n'
@@ -44,6 +44,15 @@ export const tests = [
     equal(readReport('fault 1 field 8\n').unknown, ['fault 1 field 8']);
     equal(readFault('fault x field 8 3'), null);
     equal(readReport('').unknown, []);
+  }],
+  ['what is read of a run agrees, or not', () => {
+    const lines = SMALL.split('\n').slice(0, -1);
+    const of = (kind, kept, refused = 0) => agrees({ kind, report: readReport(kept.map((line) => `${line}\n`).join('')), refused: new Uint8Array(4 * refused) });
+    const refusing = [...lines.slice(0, 2), 'fault 21 offer 0 0', ...lines.slice(2, 5), 'refused 1 pairs'];
+    equal([of('frames', lines), of('plan', lines.slice(2, 5)), of('frames', refusing, 1), of('plan', refusing.slice(2, 6), 1)], [true, true, true, true]);
+    equal([of('plan', lines), of('frames', lines.slice(2, 5)), of('frames', lines, 1), of('frames', refusing)], [false, false, false, false]);
+    lines.forEach((line, i) => holds(!of('frames', lines.filter((_, other) => other !== i)), `without ${line}`));
+    holds(!of('plan', [...lines.slice(2, 5), 'VF 3 0 1 2']) && !of('plan', [...lines.slice(2, 5), 'a line']), 'a line too many');
   }],
   ['a short report is shown whole, a long one with a gap', () => {
     equal(shownReport(SMALL), SMALL);
