@@ -152,6 +152,10 @@ class Bench:
         """Whether an element is there and shown."""
         return page.evaluate("(s) => { const it = document.querySelector(s); return !!it && it.checkVisibility({ visibilityProperty: true }); }", selector)
 
+    def shows_nothing(self, page):
+        """Holds that no run is shown, neither one that goes on nor what one found."""
+        same("what is shown", [it for it in ("#work", "#taken", "#verdict-box", "#fault", "#found", "#bar") if self.seen(page, it)], [])
+
     # ---- files
 
     def file(self, name, text):

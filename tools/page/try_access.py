@@ -217,6 +217,7 @@ def stopped(bench):
     page.press("Enter")
     page.wait("document.body.dataset.state === 'stopped'", 3)
     holds("the button to stop is still shown", not bench.seen(page, "#stop"))
+    bench.shows_nothing(page)
     same("what has the focus", page.evaluate("document.activeElement.id"), "state")
     start, end = bench.frames("crossing", CROSSING_START, CROSSING_END)
     bench.choose(page, start, end)

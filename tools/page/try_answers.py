@@ -242,8 +242,9 @@ def files_that_do_not_fit(bench):
         page.rest(0.15)
         told = bench.text(page, "#state") + (bench.text(page, "#fault") if bench.seen(page, "#fault") else "")
         holds(f"nothing is told of {[it.name for it in paths]}", told != before or bench.runs(page) > runs)
-    bench.choose(page, start, end)
-    same("the report", bench.text(page, "#report"), bench.inspected(start, end)[0])
+        bench.shows_nothing(page)
+        bench.choose(page, start, end)
+        same("the report", bench.text(page, "#report"), bench.inspected(start, end)[0])
     bench.close(page)
 
 

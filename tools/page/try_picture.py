@@ -3,6 +3,7 @@
 from bench import CROSSING_END, CROSSING_START, EXAMPLE, holds, same
 
 FOCUS_ENTRY = "(n) => { document.querySelector(`#entries button[data-entry='${n}']`).focus(); }"
+WINDOW = "[...document.getElementById('ruler').children].flatMap((it, part) => (it.classList.contains('window') ? [part] : []))"
 PRESSED = "[...document.querySelectorAll('#entries button')].filter((it) => it.getAttribute('aria-pressed') === 'true').map((it) => Number(it.dataset.entry))"
 
 
@@ -89,8 +90,9 @@ def each_chosen(bench):
         kind, *_, first, last = lines[n]
         middle = bench.marks(page, bench.middle(page, 0.3))
         holds(f"entry {n}, {' '.join(lines[n])}: marks in the middle {middle}", middle[kind == "EE"] > 5)
-        if first != "-":
-            holds(f"entry {n}: the step is at {step_of(page)}, its window {first} {last}", int(first) * 250 <= step_of(page) <= (int(last) + 1) * 250)
+        first, last = int(first), int(last)
+        same(f"the step at entry {n}", step_of(page), 125 * (first + last + 1))
+        same(f"the parts of entry {n}", page.evaluate(WINDOW), list(range(first, last + 1)))
     # the list by keys
     at = lambda: page.evaluate("Number(document.activeElement.dataset.entry)")
     for key, wanted in (("Home", 0), ("ArrowDown", 1), ("End", len(lines) - 1), ("ArrowUp", len(lines) - 2)):
