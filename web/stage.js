@@ -23,7 +23,8 @@ export function makeStage({ canvas, slider, play, where, whole, ruler, hint, non
   let fraction = 0, playing = null, turning = null, asked = false;
 
   let picture = null;
-  try { picture = makePicture(canvas, () => look()); } catch { picture = null; }
+  try { picture = makePicture(canvas, () => { none.hidden = true; look(); }); } catch { picture = null; }
+  canvas.addEventListener('webglcontextlost', () => { none.hidden = false; });
   if (!picture) {
     none.hidden = false;
     for (const useless of [canvas, whole, hint]) useless.hidden = true;

@@ -230,6 +230,7 @@ def given_back(bench):
             page.evaluate("(() => { globalThis.losing = document.getElementById('view').getContext('webgl').getExtension('WEBGL_lose_context'); losing.loseContext(); })()")
             page.rest(0.1)
         bench.drop(page, *folded_through(bench))
+        same("whether it is told that there is no picture", bench.seen(page, "#no-picture"), loses)
         if loses:
             page.evaluate("losing.restoreContext()")
             page.rest(0.1)
