@@ -3,7 +3,7 @@ import { sortFiles, swapped, takenAs } from './files.js';
 import { chosenFiles, droppedFiles, readFiles } from './intake.js';
 import { makeKeeper } from './keeper.js';
 import { bytesOfBase64, has64, modulesToTry, whyNone } from './modules.js';
-import { explainEnding, groundsOf, pressEntry, showCounts, showDownloads, showEntries, showFault, showRefusals, showReport, showVerdict } from './panels.js';
+import { explainEnding, groundsOf, pressEntry, showCounts, showDownloads, showEntries, showFault, showRefusals, showReport, showConclusion } from './panels.js';
 import { agrees, pairsIn } from './report.js';
 import { makeStage } from './stage.js';
 import { pairsCount, testsCount, timeWords } from './words.js';
@@ -149,8 +149,8 @@ function stopWork() {
 function clear() {
   chosen = -1;
   leave($('found'));
-  for (const id of ['taken', 'verdict-box', 'fault', 'found', 'listed', 'refusals', 'counted']) $(id).hidden = true;
-  for (const id of ['verdict', 'notes', 'fault', 'counts', 'entries', 'refused', 'report', 'downloads']) $(id).replaceChildren();
+  for (const id of ['taken', 'conclusion-box', 'fault', 'found', 'listed', 'refusals', 'counted']) $(id).hidden = true;
+  for (const id of ['conclusion', 'notes', 'fault', 'counts', 'entries', 'refused', 'report', 'downloads']) $(id).replaceChildren();
   addresses.forEach((address) => URL.revokeObjectURL(address));
   addresses = [];
   stage.show(null);
@@ -172,7 +172,7 @@ function show(what, result, film, took) {
     ['report.txt', text], result.step && ['step.bin', result.step], result.pairs && ['pairs.bin', result.pairs], refused && ['refused.bin', result.refused],
   ].filter(Boolean));
   if (well) {
-    showVerdict({ box: $('verdict-box'), verdict: $('verdict'), notes: $('notes') }, groundsOf(what, result, film));
+    showConclusion({ box: $('conclusion-box'), conclusion: $('conclusion'), notes: $('notes') }, groundsOf(what, result, film));
     showCounts($('counts'), report.counts);
     $('counted').hidden = false;
     showEntries($('entries'), report.entries, choose);

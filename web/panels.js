@@ -1,7 +1,7 @@
 // What a run found, put into the page's elements. All text is put in as text.
 import { explainDifference, explainFault, faultWords, fieldSpan, seen } from './faults.js';
 import { pairAt, pairsIn, shownReport } from './report.js';
-import { entryWords, verdictOf, windowWords } from './words.js';
+import { entryWords, conclusionOf, windowWords } from './words.js';
 
 const MOST_SHOWN = 200;
 
@@ -17,7 +17,7 @@ export function make(tag, attributes = {}, ...children) {
 
 const whole = (n) => n.toLocaleString('en');
 
-// What the verdict's sentences rest on.
+// What the conclusion's sentences rest on.
 export function groundsOf(sorted, result, film) {
   return {
     whole: result.found, faces: film ? film.faces.length / 3 : 0,
@@ -26,10 +26,10 @@ export function groundsOf(sorted, result, film) {
   };
 }
 
-export function showVerdict({ box, verdict, notes }, grounds) {
-  const { kind, main, more, notes: said } = verdictOf(grounds);
+export function showConclusion({ box, conclusion, notes }, grounds) {
+  const { kind, main, more, notes: said } = conclusionOf(grounds);
   box.dataset.kind = kind;
-  verdict.replaceChildren(make('p', {}, main), ...more.map((sentence) => make('p', {}, sentence)));
+  conclusion.replaceChildren(make('p', {}, main), ...more.map((sentence) => make('p', {}, sentence)));
   notes.replaceChildren(...said.map((sentence) => make('p', {}, sentence)));
   box.hidden = false;
 }

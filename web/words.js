@@ -1,17 +1,17 @@
-// The verdict. Each sentence says what is proved of the run, and no more.
+// The conclusion. Each sentence says what is proved of the run, and no more.
 
 const count = (n, one, many) => `${n.toLocaleString('en')} ${n === 1 ? one : many}`;
 export const testsCount = (n) => count(n, 'test', 'tests');
 export const pairsCount = (n) => count(n, 'pair', 'pairs');
 
-// What a verdict rests on:
+// What a conclusion rests on:
 // whole    the claim is of every two faces of the sheet: the pairs are its near ones, all offered
 // faces    how many faces the sheet has
 // offered, refused   how many pairs were offered, and how many of these were refused
 // listed   how many tests are listed
 // source   what the pairs are called where they are the plan's own
 // again    they are the pairs that the run before refused
-export function verdictOf({ whole, faces, offered, refused, listed, source, again = false }) {
+export function conclusionOf({ whole, faces, offered, refused, listed, source, again = false }) {
   if (whole && faces < 2) {
     return { kind: 'empty', main: 'The sheet has no two faces, so there was nothing to inspect.', more: [], notes: [] };
   }

@@ -154,7 +154,7 @@ class Bench:
 
     def shows_nothing(self, page):
         """Holds that no run is shown, neither one that goes on nor what one found."""
-        same("what is shown", [it for it in ("#work", "#taken", "#verdict-box", "#fault", "#found", "#bar") if self.seen(page, it)], [])
+        same("what is shown", [it for it in ("#work", "#taken", "#conclusion-box", "#fault", "#found", "#bar") if self.seen(page, it)], [])
 
     # ---- files
 

@@ -4,7 +4,7 @@ import re
 
 from bench import CROSSING_END, CROSSING_PAIRS, CROSSING_START, CROSSING_STEP, EXAMPLE, full_lists, holds, long_run, same
 
-IDS = "drop files example state stop verdict counts entries refusals report fault downloads view step play where".split()
+IDS = "drop files example state stop conclusion counts entries refusals report fault downloads view step play where".split()
 # what a hand can reach: shown, and not switched off
 CONTROLS = """[...document.querySelectorAll('button, input, select, textarea, summary, a[href], [tabindex]')]
   .filter((it) => it.tabIndex >= 0 && !it.disabled && it.checkVisibility({ visibilityProperty: true }))

@@ -66,8 +66,8 @@ def two_frames(bench):
         bench.drop(page, *paths)
         bench.inspects(page, "two frames", start, end)
     same("the entries", entries(page), 1)
-    verdict = bench.text(page, "#verdict")
-    holds(f"the verdict does not end as a sentence: {verdict}", verdict.strip().endswith("."))
+    conclusion = bench.text(page, "#conclusion")
+    holds(f"the conclusion does not end as a sentence: {conclusion}", conclusion.strip().endswith("."))
     holds("the counts are not a table", page.evaluate("document.querySelector('#counts').matches('table') || !!document.querySelector('#counts table')"))
     counts = bench.text(page, "#counts")
     holds(f"the counts lack a number: {counts}", all(it in counts for it in "1569"[:3]))
@@ -206,7 +206,7 @@ def refused_pairs(bench):
     same("the report", bench.text(page, "#report"), report)
     holds("inspect refused nothing", "\nrefused 10 pairs\n" in report)
     holds("the refused pairs are not shown", bench.seen(page, "#refusals"))
-    holds("the verdict does not tell them", "10" in bench.text(page, "#verdict"))
+    holds("the conclusion does not tell them", "10" in bench.text(page, "#conclusion"))
     same("the entries", entries(page), report.count("\nVF ") + report.count("\nEE ") - 2)
     # in a run of their own none is refused
     sheet, step, pairs = start.read_bytes(), bytes(36), bytes(it for a in range(12) for b in range(a + 1, 12) for it in (a, 0, b, 0))
@@ -214,7 +214,7 @@ def refused_pairs(bench):
     bench.finish(page, lambda: page.evaluate("document.getElementById('again').click()"))
     printed = bench.inspects(page, "the refused pairs", rest[0].parent)
     holds("some are refused again", "fault" not in printed and not bench.seen(page, "#refusals"))
-    holds("the verdict says too much", "every two faces of the sheet" not in bench.text(page, "#verdict"))
+    holds("the conclusion says too much", "every two faces of the sheet" not in bench.text(page, "#conclusion"))
     bench.close(page)
 
 
@@ -248,8 +248,8 @@ def files_that_do_not_fit(bench):
     bench.close(page)
 
 
-def verdicts(bench):
-    """A verdict says no more than is proved of the pairs that were offered and not refused."""
+def conclusions(bench):
+    """A conclusion says no more than is proved of the pairs that were offered and not refused."""
     page = bench.page()
     start, end = bench.frames("crossing", CROSSING_START, CROSSING_END)
     apart = bench.frames("apart", CROSSING_START, CROSSING_START)
@@ -257,7 +257,7 @@ def verdicts(bench):
     none = bench.plan("none", CROSSING_START, CROSSING_STEP, b"")
     only_refused = bench.plan("only-refused", CROSSING_START, CROSSING_STEP, bytes(4))
     sheet, other = "every two faces of the sheet", "not offered nothing is said"
-    # what was inspected, what the verdict has to say, and what it may not
+    # what was inspected, what the conclusion has to say, and what it may not
     cases = [
         ("covered", (start, end), (sheet, "1 test is listed", "not listed stays apart"), ("refused",)),
         ("covered, none listed", apart, (sheet, "stays apart"), ("refused", "not listed stays")),
@@ -269,11 +269,11 @@ def verdicts(bench):
     ]
     for name, paths, wanted, unwanted in cases:
         bench.choose(page, *paths)
-        told = page.evaluate("document.getElementById('verdict').parentElement.textContent").lower()
+        told = page.evaluate("document.getElementById('conclusion').parentElement.textContent").lower()
         for part in wanted:
-            holds(f"the verdict of {name} does not say {part!r}: {told}", part in told)
+            holds(f"the conclusion of {name} does not say {part!r}: {told}", part in told)
         for part in unwanted:
-            holds(f"the verdict of {name} says {part!r}: {told}", part not in told)
+            holds(f"the conclusion of {name} says {part!r}: {told}", part not in told)
     bench.close(page)
 
 
@@ -332,7 +332,7 @@ tests = [
     ("frames that differ", frames_that_differ),
     ("frames swapped", swapped),
     ("refused pairs", refused_pairs),
-    ("verdicts", verdicts),
+    ("conclusions", conclusions),
     ("long texts", long_texts),
     ("files that come during a run", run_upon_run),
     ("files that do not fit", files_that_do_not_fit),

@@ -1,5 +1,5 @@
 // What is put into the page. In node there is no document, so there these pass and say nothing.
-import { explainEnding, groundsOf, make, pressEntry, showCounts, showEntries, showFault, showRefusals, showVerdict } from '../panels.js';
+import { explainEnding, groundsOf, make, pressEntry, showCounts, showEntries, showFault, showRefusals, showConclusion } from '../panels.js';
 import { readReport } from '../report.js';
 import { equal, holds, textBytes } from './harness.js';
 
@@ -9,7 +9,7 @@ const report = (text) => readReport(text);
 const film = { points: new Int16Array(36), faces: new Uint16Array(6) };
 
 export const tests = [
-  ['what a verdict rests on', () => {
+  ['what a conclusion rests on', () => {
     const result = { found: true, pairs: new Uint8Array(8), refused: new Uint8Array(4), report: report('VF 3 0 1 2\n') };
     equal(groundsOf({ kind: 'frames', pairs: undefined }, result, film), { whole: true, faces: 2, offered: 2, refused: 1, listed: 1, source: 'the plan', again: false });
     equal(groundsOf({ kind: 'plan', pairs: file('a/pairs.bin', '') }, { ...result, found: false }, film).source, 'pairs.bin');
@@ -24,10 +24,10 @@ export const tests = [
     const plan = { kind: 'plan', sheet: file('sheet.obj', 'v 1 2 3\n'), step: file('step.bin', '') };
     equal(of('fault', 'fault 8 step 0 0\n', plan), [['step.bin', null], ['sheet.obj', 'v 1 2 3']]);
   }],
-  ['a verdict', inPage(() => {
-    const [box, verdict, notes] = [make('div', { hidden: true }), make('div'), make('div')];
-    showVerdict({ box, verdict, notes }, { whole: true, faces: 2, offered: 1, refused: 1, listed: 0, source: 'the plan' });
-    equal([box.hidden, box.dataset.kind, verdict.children.length, notes.children.length], [false, 'refused', 2, 1]);
+  ['a conclusion', inPage(() => {
+    const [box, conclusion, notes] = [make('div', { hidden: true }), make('div'), make('div')];
+    showConclusion({ box, conclusion, notes }, { whole: true, faces: 2, offered: 1, refused: 1, listed: 0, source: 'the plan' });
+    equal([box.hidden, box.dataset.kind, conclusion.children.length, notes.children.length], [false, 'refused', 2, 1]);
   })],
   ['counts', inPage(() => {
     const table = make('table');

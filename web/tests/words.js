@@ -1,9 +1,9 @@
-import { entryWords, middleOf, partOf, pictureWords, timeWords, verdictOf, whereWords, windowWords } from '../words.js';
+import { entryWords, middleOf, partOf, pictureWords, timeWords, conclusionOf, whereWords, windowWords } from '../words.js';
 import { equal, holds } from './harness.js';
 
 const frames = { whole: true, faces: 200, offered: 1667, refused: 0, listed: 0, source: 'the plan' };
 const plan = { ...frames, whole: false, source: 'pairs.bin' };
-const of = (grounds) => verdictOf(grounds);
+const of = (grounds) => conclusionOf(grounds);
 const VF = { kind: 'VF', point: 3, face: 0, window: { first: 1, last: 2 } };
 const EE = { kind: 'EE', edges: [[1, 2], [3, 4]], window: { first: 3, last: 3 } };
 
@@ -38,7 +38,7 @@ export const tests = [
     equal(of({ ...frames, faces: 1, offered: 0 }).main, 'The sheet has no two faces, so there was nothing to inspect.');
     holds(of({ ...frames, offered: 0 }).main.includes('of every two faces'), 'a sheet of far faces is covered');
   }],
-  ['no verdict promises more', () => {
+  ['no conclusion promises more', () => {
     for (const whole of [true, false]) for (const refused of [0, 1, 9]) for (const listed of [0, 1, 9]) for (const offered of [0, 9, 10]) {
       const { main, more, notes } = of({ ...frames, whole, refused: Math.min(refused, offered), listed, offered, source: 'pairs.bin' });
       const text = [main, ...more, ...notes].join(' ');
