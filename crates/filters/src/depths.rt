@@ -48,6 +48,7 @@ pub(crate) fn struck<F: Filter>(filter: &F, test: &Test, depth: u8) -> bool
 
 /// Apart from `struck`, so that a test that is struck whole makes no room for halves.
 #[cycle(striking)]
+#[inline(never)]
 #[tactic(auto, using(crate::proofs::Turns::halves_step))]
 fn are_halves_struck<F: Filter>(filter: &F, test: &Test, depth: u8) -> bool
     requires { test.now.shape.scale + depth ≤ 5 }
