@@ -2,4 +2,5 @@ pub mod Reaching
 pub mod Spans
 pub mod Boxes
 pub mod Slabs
+pub mod Parts
 pub mod FirstParts

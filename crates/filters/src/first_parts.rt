@@ -6,6 +6,7 @@ ghost use Rattle.filters.specs.FirstParts.{earliest_at, behind_first_half};
 
 use crate::depths::has_room;
 use crate::filter::Filter;
+use crate::parts::parts;
 use crate::tests::Test;
 use crate::windows::of_last_half;
 
@@ -30,7 +31,7 @@ impl Earliest {
     {
         Earliest {
             part: of_last_half(self.part, depth),
-            put: (1 << depth) + self.put,
+            put: parts(depth) + self.put,
         }
     }
 }

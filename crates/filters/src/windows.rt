@@ -5,6 +5,7 @@ ghost use Rattle.motion.specs.Depths.{first_passed, last_passed, window_at, Wind
 
 use crate::depths::has_room;
 use crate::filter::Filter;
+use crate::parts::parts;
 use crate::tests::Test;
 
 /// The first and the last of the 2^depth subintervals that the filter passes, or none where it
@@ -81,5 +82,5 @@ pub(crate) fn of_last_half(part: Option<u8>, depth: u8) -> Option<u8>
     ensures { result ≡ option_map (λ k. 2 ^ depth + k) part }
 {
     let part = part?;
-    Some((1 << depth) + part)
+    Some(parts(depth) + part)
 }

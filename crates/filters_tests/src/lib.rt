@@ -8,4 +8,6 @@ mod cases;
 #[cfg(test)]
 mod counting;
 #[cfg(test)]
+mod parts;
+#[cfg(test)]
 mod shapes;
