@@ -202,7 +202,7 @@ pub fn plane_strikes(test: &Test) -> bool {
     all_above_or_all_below_zero(&plane_numbers(test))
 }
 
-/// The row of Box, Slab and Plane.
+/// The row of Box, Slab and Plane, which strikes what the delivered row strikes.
 pub fn row_strikes(test: &Test) -> bool {
     box_strikes(test) || slab_strikes(test) || plane_strikes(test)
 }

@@ -1,7 +1,10 @@
 pub mod Exact
 pub mod Reaches
+pub mod Laned
+pub mod Assembled
+pub mod Parted
+pub mod Somewhere
 pub mod Extents
-pub mod Pairwise
 pub mod Turns
 pub mod Inside
 pub mod Volumes

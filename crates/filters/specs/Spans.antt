@@ -1,13 +1,10 @@
 -- Stretches of a line of whole numbers, and the two features of a test as such.
-use Rattle.std.specs.Prelude.{Bool, ◌&&◌, ◌||◌, ℤ, int_lt}
+use Rattle.std.specs.Prelude.{Bool, ◌||◌, ℤ, int_lt}
 use Rattle.std.specs.Int.{int_min, int_max}
 use Rattle.motion.specs.declared.shapes.Kind.{Kind}
 use Rattle.motion.specs.declared.shapes.Kind.TheVariants.{Vf, Ee}
 use Rattle.filters.specs.declared.spans.Span.{Span}
 use Rattle.filters.specs.declared.spans.Sides.{Sides}
-
-abbrev pub spot : ℤ → Span
-spot x = record { low = x; high = x }
 
 abbrev pub stretch : ℤ → ℤ → Span
 stretch x y = record { low = int_min x y; high = int_max x y }
@@ -24,9 +21,3 @@ under s t = int_lt s.high t.low
 
 abbrev pub parted : Sides → Bool
 parted s = under s.first s.second || under s.second s.first
-
--- at the start s and at the end e alike, the same one lies under the other
-abbrev pub stay_parted : Sides → Sides → Bool
-stay_parted s e =
-    (under s.second s.first && under e.second e.first)
-    || (under s.first s.second && under e.first e.second)

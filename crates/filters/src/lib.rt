@@ -1,11 +1,13 @@
-//! Filters: what a filter is and owes, three that are delivered, any two in a row, striking at a
-//! depth, and the window.
+//! Filters: what a filter is and owes, three of them, any two in a row, the row that is delivered,
+//! striking at a depth, and the window.
 #![tactic(auto)]
 
 mod boxes;
 mod depths;
+mod differences;
 mod filter;
 mod first_parts;
+mod lanes;
 mod parts;
 mod planes;
 mod rows;

@@ -8,7 +8,7 @@ ghost use Rattle.filters.specs.Reaching.{Reach, Small};
 
 use crate::filter::Filter;
 use crate::tests::Test;
-use crate::vectors::{cross, dot, minus, plus};
+use crate::vectors::{cross, dot, minus, plus, way};
 use motion::{Controls, V3};
 
 /// Strikes where the four control values have one sign.
@@ -20,6 +20,8 @@ impl Filter for PlaneFilter {
 
     ghost lawful = { λ f. plane-lawful };
 
+    // not put into its caller, so that what a filter before it strikes needs no stack for it
+    #[inline(never)]
     fn strikes(&self, test: &Test) -> bool {
         one_sign(controls(test))
     }
@@ -109,15 +111,6 @@ fn inner(d: V3, between: V3, other: V3, n: V3) -> i64
     ensures { result ≡ dot d between +ℤ dot other n }
 {
     dot(d, between) + dot(other, n)
-}
-
-/// The way from one point to another, where both are as near as the bounds of a test make them.
-fn way(from: V3, to: V3) -> V3
-    requires { (Reach (2 ^ 18) from) × (Reach (2 ^ 18) to) }
-    ensures value { result ≡ to -ᵛ from }
-    ensures reach { Reach (2 ^ 19) result }
-{
-    minus(to, from)
 }
 
 /// Across the triangle a, b, c.

@@ -1,9 +1,8 @@
 // Two filters in a row, and the row that is delivered.
 ghost use Rattle.std.specs.Prelude.{◌≡◌};
-ghost use Rattle.motion.specs.Rows.{row, delivered};
+ghost use Rattle.motion.specs.Rows.{row, delivered, with_box};
 ghost use Rattle.motion.proofs.RowLaws.{row-lawful};
 
-use crate::boxes::BoxFilter;
 use crate::filter::Filter;
 use crate::planes::PlaneFilter;
 use crate::slabs::SlabFilter;
@@ -27,20 +26,20 @@ impl<A: Filter, B: Filter> Filter for Row<A, B> {
     }
 }
 
-/// The filter that is delivered: Box, then Slab, then Plane.
-pub type Delivered = Row<Row<BoxFilter, SlabFilter>, PlaneFilter>;
+/// The filter that is delivered: Slab, then Plane. What Box strikes, Slab strikes.
+pub type Delivered = Row<SlabFilter, PlaneFilter>;
 
 pub const DELIVERED: Delivered = Row {
-    first: Row {
-        first: BoxFilter,
-        second: SlabFilter,
-    },
+    first: SlabFilter,
     second: PlaneFilter,
 };
 
-/// The delivered filter: it strikes exactly what Box, Slab or Plane strikes.
+/// The delivered filter: it strikes exactly what Slab or Plane strikes, and so exactly what Box,
+/// Slab or Plane strikes.
+#[tactic(auto, using(motion::proofs::BoxLaws::without_box))]
 pub fn delivered_filter() -> Delivered
-    ensures { ⟦<Delivered as Filter>⟧.struck result ≡ delivered }
+    ensures set { ⟦<Delivered as Filter>⟧.struck result ≡ delivered }
+    ensures with_box { ⟦<Delivered as Filter>⟧.struck result ≡ with_box }
 {
     DELIVERED
 }

@@ -1,14 +1,14 @@
 // The filter Slab: a direction along which one feature stays beyond the other.
-ghost use Rattle.std.specs.Prelude.{◌≡◌};
+ghost use Rattle.std.specs.Prelude.{◌≡◌, All};
+ghost use Rattle.std.specs.List.{list_any};
 ghost use Rattle.motion.specs.Slab.{parted_along, directions, slab_set};
 ghost use Rattle.motion.specs.Laws.{Within};
 ghost use Rattle.motion.proofs.SlabLaws.{slab-lawful};
-ghost use Rattle.filters.specs.Slabs.{start_sides, end_sides};
+ghost use Rattle.filters.specs.Slabs.{diagonals};
 
+use crate::differences::Differences;
 use crate::filter::Filter;
-use crate::spans::{Sides, Span};
 use crate::tests::Test;
-use crate::vectors::dot;
 use motion::{Shape, V3};
 
 /// All directions with entries −1, 0 and 1, not all 0, the first that is not 0 being 1.
@@ -37,8 +37,10 @@ impl Filter for SlabFilter {
 
     ghost lawful = { λ f. slab-lawful };
 
+    // the axes first: most tests that are struck are parted along one of them
+    #[tactic(auto, using(crate::proofs::Somewhere::by_an_axis, crate::proofs::Somewhere::by_no_axis))]
     fn strikes(&self, test: &Test) -> bool {
-        all_directions().iter().any(|d| separates(*d, test))
+        is_parted_along_some(&all_directions()[..3], test) || is_parted_diagonally(test)
     }
 }
 
@@ -49,34 +51,24 @@ fn all_directions() -> &'static [V3; 13]
     &DIRECTIONS
 }
 
-/// Along the direction one feature is beyond the other, at the start and at the end alike.
-fn separates(d: V3, test: &Test) -> bool
-    requires { Within 1 d }
-    ensures { result ≡ parted_along test.now.shape d }
+/// Along a direction that is no axis. Not put into its caller, so that a test that an axis parts
+/// needs no stack for it; and in two slices, each so short that the compiler lays its directions out
+/// one by one, with no product left.
+#[inline(never)]
+#[tactic(auto, using(crate::proofs::Somewhere::by_two, crate::proofs::Somewhere::by_three))]
+fn is_parted_diagonally(test: &Test) -> bool
+    ensures { result ≡ list_any (parted_along test.now.shape) diagonals }
 {
-    sides_at_start(d, test).stay_parted(sides_at_end(d, test))
+    is_parted_along_some(&all_directions()[3..9], test)
+        || is_parted_along_some(&all_directions()[9..], test)
 }
 
-fn sides_at_start(d: V3, test: &Test) -> Sides
-    requires { Within 1 d }
-    ensures { result ≡ start_sides d test.now.shape }
+/// Along one of these directions one feature is beyond the other, at the start and at the end
+/// alike.
+#[inline(always)]
+fn is_parted_along_some(directions: &[V3], test: &Test) -> bool
+    requires { All (Within 1) directions.now }
+    ensures { result ≡ list_any (parted_along test.now.shape) directions.now }
 {
-    let t = test.shape;
-    let p = Span::at(dot(d, t.p.start));
-    let a = Span::at(dot(d, t.a.start));
-    let b = Span::at(dot(d, t.b.start));
-    let c = Span::at(dot(d, t.c.start));
-    Sides::new(t.kind, p, a, b, c)
-}
-
-fn sides_at_end(d: V3, test: &Test) -> Sides
-    requires { Within 1 d }
-    ensures { result ≡ end_sides d test.now.shape }
-{
-    let t = test.shape;
-    let p = Span::at(dot(d, t.p.end));
-    let a = Span::at(dot(d, t.a.end));
-    let b = Span::at(dot(d, t.b.end));
-    let c = Span::at(dot(d, t.c.end));
-    Sides::new(t.kind, p, a, b, c)
+    Differences::of(test).have_one_sign_along_some(directions)
 }

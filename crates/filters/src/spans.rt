@@ -1,6 +1,6 @@
 // Stretches of a line, and the two features of a test as such.
 ghost use Rattle.std.specs.Prelude.{◌≡◌};
-ghost use Rattle.filters.specs.Spans.{spot, stretch, joined, sides, under, parted, stay_parted};
+ghost use Rattle.filters.specs.Spans.{stretch, joined, sides, under, parted};
 
 use motion::Kind;
 
@@ -12,12 +12,6 @@ pub(crate) struct Span {
 }
 
 impl Span {
-    pub(crate) fn at(x: i64) -> Span
-        ensures { result ≡ spot x }
-    {
-        Span { low: x, high: x }
-    }
-
     pub(crate) fn between(x: i64, y: i64) -> Span
         ensures { result ≡ stretch x y }
     {
@@ -36,7 +30,7 @@ impl Span {
         }
     }
 
-    pub(crate) fn is_under(self, other: Span) -> bool
+    fn is_under(self, other: Span) -> bool
         ensures { result ≡ under self other }
     {
         self.high < other.low
@@ -72,13 +66,5 @@ impl Sides {
         ensures { result ≡ parted self }
     {
         self.first.is_under(self.second) || self.second.is_under(self.first)
-    }
-
-    /// At the start and at the end alike, the same one lies under the other.
-    pub(crate) fn stay_parted(self, end: Sides) -> bool
-        ensures { result ≡ stay_parted self end }
-    {
-        self.second.is_under(self.first) && end.second.is_under(end.first)
-            || self.first.is_under(self.second) && end.first.is_under(end.second)
     }
 }

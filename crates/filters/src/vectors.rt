@@ -28,6 +28,15 @@ pub(crate) fn minus(u: V3, v: V3) -> V3
     }
 }
 
+/// The way from one point to another, where both are as near as the bounds of a test make them.
+pub(crate) fn way(from: V3, to: V3) -> V3
+    requires { (Reach (2 ^ 18) from) × (Reach (2 ^ 18) to) }
+    ensures value { result ≡ to -ᵛ from }
+    ensures reach { Reach (2 ^ 19) result }
+{
+    minus(to, from)
+}
+
 pub(crate) fn dot(u: V3, v: V3) -> i64
     requires { (Reach (2 ^ 19) u) × (Reach (3 * 2 ^ 40) v) }
     ensures { result ≡ dot u v }

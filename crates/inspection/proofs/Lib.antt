@@ -5,3 +5,4 @@ pub mod NamingLaws
 pub mod Gathering
 pub mod Moments
 pub mod Claiming
+pub mod Alike

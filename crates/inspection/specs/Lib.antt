@@ -13,4 +13,5 @@ pub mod Offers
 pub mod Windows
 pub mod Runs
 pub mod Requests
+pub mod Alike
 pub mod Claims

@@ -1,5 +1,5 @@
 -- Box keeps both laws, and Slab strikes what it strikes.
-use Rattle.std.proofs.Common.{◌≡◌, ℕ, zero, suc, ◌<◌, ◌≤◌, true, ◌&&◌, List, [], ◌∷◌, map, ℤ, pos, ◌+ℤ◌, ◌-ℤ◌, ◌≤ℤ◌, get_or, sym, ◌∙◌, ⊎_elim, arith}
+use Rattle.std.proofs.Common.{◌≡◌, ℕ, zero, suc, ◌<◌, ◌≤◌, Bool, true, false, ◌&&◌, ◌||◌, List, [], ◌∷◌, map, ℤ, pos, ◌+ℤ◌, ◌-ℤ◌, ◌≤ℤ◌, get_or, refl, sym, ap, ◌∙◌, ⊎_elim, arith}
 use lib.Signed.{lt_z, ≤ℤ_refl}
 use borrow.Author.Differences.{ints}
 use Rattle.std.specs.Int.{int_min, int_max}
@@ -15,7 +15,8 @@ use Rattle.motion.specs.Features.{first, second}
 use Rattle.motion.specs.Laws.{Within, Lawful, portion, half}
 use Rattle.motion.specs.Box.{extreme, coordinates, under, parted_on, box_set}
 use Rattle.motion.specs.Slab.{pairs, above, below, parted_along, directions, slab_set}
-use Rattle.motion.specs.Rows.{IsPartOf}
+use Rattle.motion.specs.Plane.{plane_set}
+use Rattle.motion.specs.Rows.{IsPartOf, delivered, with_box}
 use Rattle.motion.proofs.Products.{dot-sum, dot-minus}
 use Rattle.motion.proofs.Members.{Each, each-to-all}
 use Rattle.motion.proofs.Halves.{at_start, at_middle, at_end, ones-of, others-of}
@@ -144,3 +145,11 @@ box-in-slab t h =
   where
     here : (k : ℕ) → k < 13 → parted_along t (get_or directions k origin) ≡ true → slab_set t ≡ true
     here k = list_any_at (parted_along t) directions k origin
+
+-- so before Slab it strikes nothing more
+pub without_box : delivered ≡ with_box
+without_box = λ i. λ t. same (box_set t) (slab_set t) (plane_set t) (box-in-slab t) i
+  where
+    same : (b s p : Bool) → (b ≡ true → s ≡ true) → (s || p) ≡ ((b || s) || p)
+    same true s p h = ap (λ c. c || p) (h refl)
+    same false s p h = refl

@@ -13,6 +13,10 @@ IsPartOf f g = (t : Shape) → IsTrue (f t) → IsTrue (g t)
 abbrev pub row : (Shape → Bool) → (Shape → Bool) → Shape → Bool
 row f g t = f t || g t
 
--- the delivered filter: Box, then Slab, then Plane
+-- the delivered filter: Slab, then Plane
 abbrev pub delivered : Shape → Bool
-delivered = row (row box_set slab_set) plane_set
+delivered = row slab_set plane_set
+
+-- and with Box before them
+abbrev pub with_box : Shape → Bool
+with_box = row (row box_set slab_set) plane_set

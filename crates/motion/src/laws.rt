@@ -11,7 +11,7 @@ ghost use Rattle.motion.specs.Cases.{values, worked_tests, Cases};
 
 use crate::shapes::Controls;
 
-/// The sets of the three delivered filters keep both laws, what Plane strikes keeps to its side and
+/// The sets of the three filters keep both laws, what Plane strikes keeps to its side and
 /// is never in one plane, Slab's directions are the ones that its rule describes, and it strikes
 /// whatever Box strikes.
 ///

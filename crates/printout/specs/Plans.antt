@@ -1,5 +1,5 @@
 -- What a plan's files make `inspect` print, store and end with, and what it may claim then.
-use Rattle.std.specs.Prelude.{◌≡◌, ℕ, List, [], ◌∷◌, ◌++◌, Some, None, Option, replicate}
+use Rattle.std.specs.Prelude.{◌≡◌, ℕ, Bool, List, [], ◌∷◌, ◌++◌, Some, None, Option, replicate}
 use Rattle.sheet.specs.Checks.{first_fit}
 use Rattle.sheet.specs.Lines.{numbered}
 use Rattle.sheet.specs.Sheet.{point_limit, face_limit, sheet_checks, draft_of, points_in, faces_in}
@@ -8,6 +8,7 @@ use Rattle.sheet.specs.declared.drafts.Draft.{Draft}
 use Rattle.sheet.specs.declared.rows.Point.{Point}
 use Rattle.sheet.specs.declared.rows.Face.{Face}
 use Rattle.step.specs.Laying.{lay_checks, with_ends}
+use Rattle.motion.specs.declared.shapes.Shape.{Shape}
 use Rattle.motion.specs.Rows.{delivered}
 use Rattle.inspection.specs.Claims.{Claim}
 use Rattle.inspection.specs.Sheets.{Sheet, sheet_of}
@@ -61,28 +62,45 @@ abbrev pub fault : Plan → Option Notice
 fault p = or_else (sheet_fault p) (step_fault p)
 
 -- ---- what is printed and stored
--- all of its pairs, offered one after another
+-- by a filter of this set
+module _ (set : Shape → Bool) (p : Plan) where
+  -- all of its pairs, offered one after another
+  abbrev pub walk_by : Walk
+  walk_by = walked set (sheet p) (just_opened (draft p)) (offerings_in p.pairs)
+
+  abbrev pub report_by : Found → List ℕ
+  report_by f =
+      let view : View = record { set = set; core = f.core; sheet = sheet p } in
+      report_text view f.vf f.ee
+
+  -- a line for each pair that is refused, and then the report; or the line of the fault
+  abbrev pub printed_by : Option Notice → Printout
+  printed_by (Some n) = record { text = notice_line n; stored = []; ending = Faulty }
+  printed_by None =
+      record {
+        text = refusal_lines walk_by ++ report_by walk_by.found;
+        stored = refused_pairs walk_by;
+        ending = Complete;
+      }
+
+-- by the delivered one
 abbrev pub walk : Plan → Walk
-walk p = walked delivered (sheet p) (just_opened (draft p)) (offerings_in p.pairs)
+walk p = walk_by delivered p
 
 abbrev pub report_of : Plan → Found → List ℕ
-report_of p f =
-    let view : View = record { set = delivered; core = f.core; sheet = sheet p } in
-    report_text view f.vf f.ee
+report_of p f = report_by delivered p f
 
--- a line for each pair that is refused, and then the report; or the line of the fault
 abbrev pub printout_by : Plan → Option Notice → Printout
-printout_by p (Some n) = record { text = notice_line n; stored = []; ending = Faulty }
-printout_by p None =
-    let w = walk p in
-    record {
-      text = refusal_lines w ++ report_of p w.found;
-      stored = refused_pairs w;
-      ending = Complete;
-    }
+printout_by p n = printed_by delivered p n
 
 abbrev pub printout : Plan → Printout
 printout p = printout_by p (fault p)
+
+-- whatever filter strikes the same, by it the same is printed and stored
+abbrev pub PrintsAlike : Plan → Type 0
+PrintsAlike p =
+    (other : Shape → Bool) → ((t : Shape) → other t ≡ delivered t)
+    → printed_by other p (fault p) ≡ printout p
 
 -- ---- which files are needed, where the pairs come in so many pieces; after a fault no more
 abbrev pub files_after : Option Notice → List PlanFile → List PlanFile

@@ -2,7 +2,7 @@
 ghost use Rattle.std.specs.Prelude.{◌≡◌, ◌↔◌, ◌+◌, ◌-◌, ◌^◌, ◌≤◌, length, min, None};
 ghost use Rattle.hosts.specs.Pages.{onto_page, Filled};
 ghost use Rattle.printout.specs.Memory.{plan, left_in};
-ghost use Rattle.printout.specs.Plans.{fault, printout, ClaimOfPlan};
+ghost use Rattle.printout.specs.Plans.{fault, printout, ClaimOfPlan, PrintsAlike};
 ghost use Rattle.printout.specs.declared.endings.Ending.TheVariants.{Complete};
 
 use crate::endings::Ending;
@@ -73,6 +73,8 @@ pub fn inspect_bytes(
         (result.ending ≡ Complete) ↔ (fault p ≡ None) }
     ensures claim { let p = plan sheet.now step.now pairs.now in
         ClaimOfPlan p }
+    ensures alike { let p = plan sheet.now step.now pairs.now in
+        PrintsAlike p }
 {
     let mut page = Page::new(page);
     let mut refused = Page::new(refused);

@@ -6,6 +6,7 @@ ghost use Rattle.inspection.specs.Sheets.{sheet_in};
 ghost use Rattle.inspection.specs.Lists.{contents_of, entries};
 ghost use Rattle.inspection.specs.States.{core_of, state_of, state_at_start};
 ghost use Rattle.inspection.specs.Runs.{depth_checks, Run};
+ghost use Rattle.inspection.specs.Alike.{AnswersAlike};
 ghost use Rattle.inspection.specs.Claims.{Claim};
 ghost use Rattle.inspection.specs.Requests.{RequestCall, Calls, history};
 
@@ -62,7 +63,8 @@ pub struct Worked<F> {
 /// Opens an inspection and works through requests in their order, as many as there is room for
 /// answers. A refusal hands back the draft and the filter, and leaves the lists and the answers.
 ///
-/// Of what came of them nobody can name a touch that is missed: that is the clause `claim`.
+/// Of what came of them nobody can name a touch that is missed: that is the clause `claim`. By any
+/// filter that strikes the same tests the same would have come of them: the clause `alike`.
 #[tactic(auto, using(crate::proofs::Working::worked_on, crate::proofs::Working::rest_more))]
 pub fn inspect<F: Filter>(
     draft: Draft,
@@ -94,6 +96,10 @@ pub fn inspect<F: Filter>(
         Claim (F.Filter.struck filter) draft (sheet_in draft points.now faces.now)
         (history depth (take w.answered requests.now) (take w.answered answers.new))
         (core_of w.inspection) (entries vf.new) (entries ee.new)) }
+    ensures alike { IfOk result (λ w.
+        AnswersAlike (F.Filter.struck filter) points.now faces.now (take w.answered requests.now)
+        (state_at_start draft depth (contents_of vf.old) (contents_of ee.old))
+        (take w.answered answers.new) (state_of w.inspection vf.new ee.new)) }
     ensures vf_lender { (contents_of vf.new).lender ≡ (contents_of vf.old).lender }
     ensures ee_lender { (contents_of ee.new).lender ≡ (contents_of ee.old).lender }
     ensures draft_back { IfErr result (λ x. x.draft ≡ draft) }

@@ -3,7 +3,9 @@ use Rattle.inspection.specs.Lists.{contents_of}
 use Rattle.inspection.specs.Sheets.{sheet_in}
 use Rattle.inspection.specs.Runs.{Run, opened}
 use Rattle.inspection.specs.States.{Core, State, state_of, state_at_start}
+use Rattle.inspection.specs.Alike.{AnswersAlike}
 use Rattle.inspection.specs.Requests.{history}
+use Rattle.inspection.proofs.Alike.{answers-alike}
 use Rattle.inspection.proofs.Claiming.{claim}
 use Rattle.inspection.proofs.Working.{worked-runs}
 use Rattle.inspection.proofs.inspections.working.inspect.Goals as goal
@@ -26,3 +28,14 @@ returns-clause-claim g c =
     let n = c.min-n.result in
     claim (g.F.Filter.lawful a.filter) a.draft (sheet_in a.draft a.points.now a.faces.now) (history a.depth (take n a.requests.now) (take n c.loop-i.answers))
     (state_of c.loop-i.inspection c.loop-i.vf c.loop-i.ee) (returns-clause-run g c)
+
+pub returns-clause-alike : goal.returns-clause-alike
+returns-clause-alike g c =
+    let a = c.args in
+    let l = c.loop-i in
+    let n : l.i ≡ c.min-n.result = omega arith in
+    let set = g.F.Filter.struck a.filter in
+    let s : State = state_at_start a.draft a.depth (contents_of a.vf.now) (contents_of a.ee.now) in
+    let t : State = state_of l.inspection l.vf l.ee in
+    subst (λ (j : ℕ). AnswersAlike set a.points.now a.faces.now (take j a.requests.now) s (take j l.answers) t) n
+    (answers-alike set a.points.now a.faces.now (take l.i a.requests.now) (take l.i l.answers) s t l.invariant.calls)
