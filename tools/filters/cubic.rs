@@ -2,6 +2,7 @@
 // features touch there, within rounding. It decides nothing here; it is timed beside the filters.
 
 use crate::tests::{Kind, Moving, Test};
+use crate::vectors::{cross, dot, minus, plus};
 
 type V3 = [f64; 3];
 
@@ -49,7 +50,7 @@ impl Line {
 fn volume(p: &Line, b: &Line, c: &Line) -> [f64; 4] {
     let n0 = cross(b.from, c.from);
     let [first, second] = [cross(b.way, c.from), cross(b.from, c.way)];
-    let n1 = [0, 1, 2].map(|i| first[i] + second[i]);
+    let n1 = plus(first, second);
     let n2 = cross(b.way, c.way);
     [
         dot(p.from, n0),
@@ -134,20 +135,4 @@ fn solve(u: V3, v: V3, w: V3) -> Option<(f64, f64)> {
         return None;
     }
     Some((dot(cross(w, v), n) / size, dot(cross(u, w), n) / size))
-}
-
-fn minus(u: V3, v: V3) -> V3 {
-    [0, 1, 2].map(|i| u[i] - v[i])
-}
-
-fn dot(u: V3, v: V3) -> f64 {
-    u[0] * v[0] + u[1] * v[1] + u[2] * v[2]
-}
-
-fn cross(u: V3, v: V3) -> V3 {
-    [
-        u[1] * v[2] - u[2] * v[1],
-        u[2] * v[0] - u[0] * v[2],
-        u[0] * v[1] - u[1] * v[0],
-    ]
 }

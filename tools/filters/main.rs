@@ -11,6 +11,7 @@ mod linked;
 mod plans;
 mod tests;
 mod twin;
+mod vectors;
 
 use linked::Which;
 use plans::{Files, Inspection, Plan};

@@ -1,6 +1,7 @@
 // The rules of the filters in plain Rust, as anyone writes them who does not prove them.
 
 use crate::tests::{Kind, Moving, Test, V3};
+use crate::vectors::{cross, dot, minus, plus};
 
 /// From the least to the greatest number.
 type Span = (i64, i64);
@@ -109,24 +110,4 @@ fn each_point(test: &Test, half: impl Fn(Moving) -> Moving) -> Test {
         b: half(test.b),
         c: half(test.c),
     }
-}
-
-fn plus(u: V3, v: V3) -> V3 {
-    [u[0] + v[0], u[1] + v[1], u[2] + v[2]]
-}
-
-fn minus(u: V3, v: V3) -> V3 {
-    [u[0] - v[0], u[1] - v[1], u[2] - v[2]]
-}
-
-fn dot(u: V3, v: V3) -> i64 {
-    u[0] * v[0] + u[1] * v[1] + u[2] * v[2]
-}
-
-fn cross(u: V3, v: V3) -> V3 {
-    [
-        u[1] * v[2] - u[2] * v[1],
-        u[2] * v[0] - u[0] * v[2],
-        u[0] * v[1] - u[1] * v[0],
-    ]
 }
