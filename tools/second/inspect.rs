@@ -1,4 +1,5 @@
-// Written from docs/RULES.md alone: the program `inspect`, for a folder and for two frames, and with --questions `questions`.
+// Written from docs/RULES.md alone: the program `inspect`, for a folder and for two frames; with --questions `questions`, and with
+// --reviewers the example `reviewers`.
 
 mod boxes;
 mod faults;
@@ -7,6 +8,7 @@ mod filters;
 mod frames;
 mod inspection;
 mod record;
+mod reviewing;
 mod sheet;
 
 use files::Stop;
@@ -15,6 +17,10 @@ use inspection::Inspection;
 use std::path::{Path, PathBuf};
 
 const DEPTH: u32 = 2;
+const USAGE: &str = "usage: inspect-second [--refused FILE] [--questions] [FOLDER]
+       inspect-second START.obj END.obj
+       inspect-second --reviewers
+";
 
 /// What is known after all pairs.
 struct Findings {
@@ -84,6 +90,7 @@ fn inspect_frames(start: &Path, end: &Path, printed: &mut String) -> Result<(), 
 struct Words {
     target: Option<PathBuf>,
     asks: bool,
+    reviews: bool,
     paths: Vec<PathBuf>,
 }
 
@@ -95,6 +102,8 @@ fn words() -> Words {
             words.target = left.next().map(PathBuf::from);
         } else if word == "--questions" {
             words.asks = true;
+        } else if word == "--reviewers" {
+            words.reviews = true;
         } else {
             words.paths.push(PathBuf::from(word));
         }
@@ -123,14 +132,21 @@ fn run_frames(start: &Path, end: &Path) -> Result<(), Stop> {
     outcome
 }
 
+fn run_reviewers() -> Result<(), Stop> {
+    print!("{}", reviewing::review()?);
+    Ok(())
+}
+
 fn main() {
     let words = words();
-    files::end(match &words.paths[..] {
-        [] => run_folder(Path::new("."), &words),
-        [folder] => run_folder(folder, &words),
-        [start, end] if words.target.is_none() && !words.asks => run_frames(start, end),
+    let plain = words.target.is_none() && !words.asks;
+    files::end(match (words.reviews, &words.paths[..]) {
+        (true, []) if plain => run_reviewers(),
+        (false, []) => run_folder(Path::new("."), &words),
+        (false, [folder]) => run_folder(folder, &words),
+        (false, [start, end]) if plain => run_frames(start, end),
         _ => Err(Stop {
-            told: "usage: inspect-second [--refused FILE] [--questions] [FOLDER]\n".to_string(),
+            told: USAGE.to_string(),
             ..Stop::default()
         }),
     });

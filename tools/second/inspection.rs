@@ -2,6 +2,7 @@
 
 use crate::faults::Fault;
 use crate::filters::{row_strikes, verdict_at_depth, Kind, Point, Test, Verdict};
+use crate::reviewing::Mark;
 
 pub const ROOM: usize = 512;
 const MOST_OFFERS: usize = 1_000_000;
@@ -20,6 +21,8 @@ pub enum Name {
 #[derive(Clone, Default)]
 pub struct Side {
     pub list: Vec<Name>,
+    /// One for each entry of the list.
+    pub marks: Vec<Mark>,
     kept: usize,
     struck: usize,
     shared: usize,
@@ -127,6 +130,7 @@ impl Inspection {
             side.repeated += 1;
         } else {
             side.list.push(name);
+            side.marks.push(Mark::Free);
             side.kept += 1;
         }
     }

@@ -37,7 +37,7 @@ use Rattle.inspection.specs.Windows.{WindowAnswer, EarliestAnswer, window_checks
 opening_of : Notice → OpeningFault
 opening_of n = opening.TooDeep n.first
 
-offer_by : ℕ → ℕ → OfferFault
+pub offer_by : ℕ → ℕ → OfferFault
 offer_by n i =
     cond (nat_eq n 16) offer.TableTooShort
     (cond (nat_eq n 17) (offer.NoSuchFace i)
@@ -48,7 +48,7 @@ offer_by n i =
 window_by : ℕ → ℕ → WindowFault
 window_by n i = cond (nat_eq n 16) window.TableTooShort (cond (nat_eq n 22) (window.NoSuchEntry i) (window.NotOfTheSheet i))
 
-offer-back : (e : OfferFault) → offer_by (notice_of_offer e).number (notice_of_offer e).first ≡ e
+pub offer-back : (e : OfferFault) → offer_by (notice_of_offer e).number (notice_of_offer e).first ≡ e
 unfolding offer_by
 offer-back offer.TableTooShort = refl
 offer-back (offer.NoSuchFace i) = refl
@@ -69,17 +69,17 @@ opening-back (opening.TooDeep k) = refl
 
 -- results that tell the same are the same, where they are worth the same
 module _ {X E : Type 0} (f : E → Notice) (back : Notice → E) (is : (e : E) → back (f e) ≡ e) where
-  settled : (a b : Result X E) (n : Option Notice) → fault_notice f a ≡ n → fault_notice f b ≡ n → ((x y : X) → a ≡ Ok x → b ≡ Ok y → x ≡ y) → a ≡ b
+  pub settled : (a b : Result X E) (n : Option Notice) → fault_notice f a ≡ n → fault_notice f b ≡ n → ((x y : X) → a ≡ Ok x → b ≡ Ok y → x ≡ y) → a ≡ b
   settled (Ok x) (Ok y) n p q same = ap Ok (same x y refl refl)
   settled (Ok x) (Err y) n p q same = cc
   settled (Err x) (Ok y) n p q same = cc
   settled (Err x) (Err y) n p q same = let r = is x in let s = is y in cc
 
-worth : {X E : Type 0} (P : X → Type 0) (r : Result X E) (x : X) → r ≡ Ok x → IfOk r P → P x
+pub worth : {X E : Type 0} (P : X → Type 0) (r : Result X E) (x : X) → r ≡ Ok x → IfOk r P → P x
 worth P r x e h = subst (λ q. IfOk q P) e h
 
 -- ---- each call
-depth-settled : (k : ℕ) (c b d : Core) (r q : Result (Unit {0}) OpeningFault) → DepthCall k c r b → DepthCall k c q d → (q ≡ r) × (d ≡ b)
+pub depth-settled : (k : ℕ) (c b d : Core) (r q : Result (Unit {0}) OpeningFault) → DepthCall k c r b → DepthCall k c q d → (q ≡ r) × (d ≡ b)
 depth-settled k c b d r q v w =
     let e = settled notice_of_opening opening_of opening-back q r _ w.fault v.fault (λ x y g h. refl) in
     (e, w.core ∙ (λ i. cond (is_ok (e i)) (with_depth k c) c) ∙ sym v.core)
@@ -91,12 +91,12 @@ module _ (set : Shape → Bool) (ps : List Point) (fs : List Face) where
       (e, w.state ∙ (λ i. cond (is_ok (e i)) (state_after set (sheet_in s.core.draft ps fs) o s) s) ∙ sym v.state)
 
   module _ {E : Type 0} (n : Naming E) (c : Core) (h : Contents E) (i : ℕ) where
-    window-settled : (r q : Result (Option (ℕ × ℕ)) WindowFault) → WindowAnswer n ps fs c h i set r → WindowAnswer n ps fs c h i set q → q ≡ r
+    pub window-settled : (r q : Result (Option (ℕ × ℕ)) WindowFault) → WindowAnswer n ps fs c h i set r → WindowAnswer n ps fs c h i set q → q ≡ r
     window-settled r q v w =
         settled notice_of_window (λ n. window_by n.number n.first) window-back q r _ w.fault v.fault
         (λ x y g h. worth _ q x g w.value ∙ sym (worth _ r y h v.value))
 
-    earliest-settled : (r q : Result Earliest WindowFault) → EarliestAnswer n ps fs c h i set r → EarliestAnswer n ps fs c h i set q → q ≡ r
+    pub earliest-settled : (r q : Result Earliest WindowFault) → EarliestAnswer n ps fs c h i set r → EarliestAnswer n ps fs c h i set q → q ≡ r
     unfolding window_checks
     earliest-settled r q v w =
         settled notice_of_window (λ n. window_by n.number n.first) window-back q r _ w.fault v.fault

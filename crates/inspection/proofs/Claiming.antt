@@ -9,6 +9,7 @@ use Rattle.motion.specs.Depths.{struck_at, Struck}
 use Rattle.motion.proofs.Subintervals.{valid-first, valid-last}
 use Rattle.motion.proofs.DepthLaws.{struck, struck-whole, struck-step}
 use Rattle.inspection.specs.declared.classes.Tally.{Tally}
+use Rattle.inspection.specs.declared.slips.Slip.{Slip}
 use Rattle.motion.specs.declared.shapes.Kind.TheVariants.{Vf, Ee}
 use Rattle.inspection.specs.Tallies.{tally_in}
 use Rattle.inspection.specs.Offerings.{SameOffering}
@@ -100,8 +101,8 @@ module _ {E : Type 0} (n : Naming E) (each : ℕ) (sheet : Sheet) (named : Namin
         (judged k l p x here (slice_get_read (n.tests sheet p.what) (length (n.tests sheet p.what)) l x refl d (sym at)) w.unshared)
 
 -- ---- the whole
-pub claim : {set : Shape → Bool} → Lawful set → (d : Draft) (sheet : Sheet) (h : List Accepted) (s : State) → Run set d sheet h s → Claim set d sheet h s.core s.vf.entries s.ee.entries
-claim {set} law d sheet h s run =
+pub claim : {set : Shape → Bool} → Lawful set → (d : Draft) (sheet : Sheet) (h : List Accepted) (out : List Slip) (s : State) → Run set d sheet h out s → Claim set d sheet h s.core s.vf.entries s.ee.entries
+claim {set} law d sheet h out s run =
     let m = moment set d sheet run in
     let vf_tally = tally_in Vf s.core.tallies in
     let ee_tally = tally_in Ee s.core.tallies in
@@ -109,7 +110,7 @@ claim {set} law d sheet h s run =
       draft = m.draft;
       vf = kept vf_naming 6 sheet (vf_laws sheet) set law h m.each s.vf.entries vf_tally m.vf;
       ee = kept ee_naming 9 sheet (ee_laws sheet) set law h m.each s.ee.entries ee_tally m.ee;
-      again = λ set' same d' other t run' answered.
+      again = λ set' same d' other out' t run' answered.
           let m' = moment set' d' sheet run' in (
             covers vf_naming 6 sheet (vf_laws sheet) set law h m.each s.vf.entries vf_tally m.vf set' same other m'.each t.vf.entries m'.vf.entries answered,
             covers ee_naming 9 sheet (ee_laws sheet) set law h m.each s.ee.entries ee_tally m.ee set' same other m'.each t.ee.entries m'.ee.entries answered,

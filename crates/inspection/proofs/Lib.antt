@@ -1,8 +1,11 @@
+pub mod Places
 pub mod Coordinates
 pub mod Working
 pub mod Inside
 pub mod NamingLaws
 pub mod Gathering
 pub mod Moments
+pub mod OneToOne
 pub mod Claiming
 pub mod Alike
+pub mod Blind

@@ -1,5 +1,5 @@
 -- What holds at every moment of a run.
-use Rattle.std.proofs.Common.{◌≡◌, ℕ, ◌+◌, ◌*◌, ◌≤◌, Bool, true, not, cond, ◌&&◌, count_by, nat_lt, List, [], ◌∷◌, ◌++◌, All, length, take, get_or, map, Ok, Err, sym, refl, ap, ◌∙◌, subst, ltb-false, length-append, length-take-le, arith}
+use Rattle.std.proofs.Common.{◌≡◌, ℕ, ◌+◌, ◌*◌, ◌≤◌, Bool, true, not, cond, ◌&&◌, count_by, nat_lt, List, [], ◌∷◌, ◌++◌, All, length, take, get_or, map, Result, Ok, Err, sym, refl, ap, ◌∙◌, subst, ltb-false, length-append, length-take-le, arith}
 use Rattle.std.proofs.Math.ListN.{get_or-map}
 use Rattle.std.proofs.lemmas.List.Sums.{fold_push, sum_by_push, sum_by-cons}
 use Rattle.std.proofs.lemmas.List.Elements.{All-nil, All-push}
@@ -14,17 +14,24 @@ use Rattle.motion.specs.Laws.{InReach}
 use Rattle.motion.specs.Depths.{struck_at}
 use Rattle.inspection.specs.declared.names.VfName.{VfName}
 use Rattle.inspection.specs.declared.names.EeName.{EeName}
+use Rattle.inspection.specs.declared.faults.TakingFault.{TakingFault}
+use Rattle.inspection.specs.declared.slips.Handed.{Handed}
+use Rattle.inspection.specs.declared.slips.RefusedSlip.{RefusedSlip}
+use Rattle.inspection.specs.declared.slips.Slip.{Slip}
 use Rattle.inspection.specs.declared.classes.Tally.{Tally}
+use Rattle.inspection.specs.Lists.{Contents}
+use Rattle.inspection.specs.Slips.{Lists, Takes, HandsInAt}
+use Rattle.motion.specs.declared.shapes.Kind.{Kind}
 use Rattle.motion.specs.declared.shapes.Kind.TheVariants.{Vf, Ee}
 use Rattle.inspection.specs.Tallies.{no_tests, total, with_one_more, sum_of, tally_in}
 use Rattle.inspection.specs.Offerings.{Offering, Faces}
 use Rattle.inspection.specs.Sheets.{Sheet, sheet_in, moving_of, nowhere, point_at}
 use Rattle.inspection.specs.Tests.{Naming, vf_naming, ee_naming}
 use Rattle.inspection.specs.Classes.{Rules, rules_at, class_of, entries_after_one, entries_after, tally_after}
-use Rattle.inspection.specs.States.{Core, State}
+use Rattle.inspection.specs.States.{Core, State, lists_in}
 use Rattle.inspection.specs.Offers.{entries_by, tally_by, state_after, offer_checks}
 use Rattle.inspection.specs.Runs.{depth_checks, Accepted, Brings, Run}
-use Rattle.inspection.specs.Runs.Run.{opened, depth_set, offered, asked}
+use Rattle.inspection.specs.Runs.Run.{opened, depth_set, offered, taken, handed_in, asked}
 use Rattle.inspection.specs.Claims.{CountsOfKind, how_many, OfSheet}
 use Rattle.inspection.proofs.Coordinates.{in_reach}
 use Rattle.inspection.proofs.NamingLaws.{NamingLaws, vf_laws, ee_laws}
@@ -40,7 +47,7 @@ module _ {E : Type 0} (j : Rules E) where
       let c = class_of j es e in
       omega (arith, tallied x p one (entries_after_one c es e) ts (with_one_more c t), one es e t, sum_by-cons (λ e. cond (p e) 1 0) e ts)
 
-  all_kept : (es ts : List E) (t : Tally) → (tally_after j es ts t).kept + length es ≡ t.kept + length (entries_after j es ts)
+  pub all_kept : (es ts : List E) (t : Tally) → (tally_after j es ts t).kept + length es ≡ t.kept + length (entries_after j es ts)
   all_kept es [] t = refl
   all_kept es (e ∷ ts) t = let c = class_of j es e in grind (arith, all_kept (entries_after_one c es e) ts (with_one_more c t), length-append es (e ∷ []))
 
@@ -111,15 +118,29 @@ module _ (set : Shape → Bool) (d : Draft) (sheet : Sheet) where
   abbrev At : List Accepted → State → Type 0
   At h s = Moment set d sheet h s.core s.vf.entries s.ee.entries
 
-  pub moment : {h : List Accepted} {s : State} → Run set d sheet h s → At h s
+  -- marks change no entry
+  taken-entries : (l : Kind) (i q : ℕ) (s : Lists) (r : Result Slip TakingFault) (t : Lists) → Takes l i q s r t → (t.vf.entries ≡ s.vf.entries) × (t.ee.entries ≡ s.ee.entries)
+  taken-entries Vf i q s (Ok x) t (a, e) = (ap (λ (h : Contents VfName). h.entries) a.list, ap (λ (h : Contents EeName). h.entries) e)
+  taken-entries Vf i q s (Err x) t (a, e) = (ap (λ (h : Contents VfName). h.entries) a.list, ap (λ (h : Contents EeName). h.entries) e)
+  taken-entries Ee i q s (Ok x) t (a, v) = (ap (λ (h : Contents VfName). h.entries) v, ap (λ (h : Contents EeName). h.entries) a.list)
+  taken-entries Ee i q s (Err x) t (a, v) = (ap (λ (h : Contents VfName). h.entries) v, ap (λ (h : Contents EeName). h.entries) a.list)
+
+  handed-entries : (l : Kind) (x : Slip) (how : Handed) (s : Lists) (r : Result (Unit {0}) RefusedSlip) (t : Lists) → HandsInAt l x how s r t
+      → (t.vf.entries ≡ s.vf.entries) × (t.ee.entries ≡ s.ee.entries)
+  handed-entries Vf x how s (Ok u) t (a, e) = (ap (λ (h : Contents VfName). h.entries) a.list, ap (λ (h : Contents EeName). h.entries) e)
+  handed-entries Vf x how s (Err y) t (a, e) = (ap (λ (h : Contents VfName). h.entries) a.list, ap (λ (h : Contents EeName). h.entries) e)
+  handed-entries Ee x how s (Ok u) t (a, v) = (ap (λ (h : Contents VfName). h.entries) v, ap (λ (h : Contents EeName). h.entries) a.list)
+  handed-entries Ee x how s (Err y) t (a, v) = (ap (λ (h : Contents VfName). h.entries) v, ap (λ (h : Contents EeName). h.entries) a.list)
+
+  pub moment : {h : List Accepted} {out : List Slip} {s : State} → Run set d sheet h out s → At h s
   moment (opened {s} o) =
       rw (o.core, o.vf, o.ee)
       (record { draft = refl; depth = o.depth; offers = refl; each = All-nil (OfferFacts sheet); vf = none_yet vf_naming 6 set sheet; ee = none_yet ee_naming 9 set sheet })
-  moment (depth_set {h} {s} k (Ok tt) t run a v e) =
+  moment (depth_set {h} {out} {s} k (Ok tt) t run a v e) =
       let m : At h s = moment run in
       rw (a.core, v, e) (record { draft = m.draft; depth = ltb-false 6 k (none_fits (depth_checks k) (sym a.fault)).0; offers = m.offers; each = m.each; vf = m.vf; ee = m.ee })
-  moment (depth_set {h} {s} k (Err x) t run a v e) = rw (a.core, v, e) (moment run)
-  moment (offered {h} {s} ps fs w (Ok tt) t run b a) =
+  moment (depth_set {h} {out} {s} k (Err x) t run a v e) = rw (a.core, v, e) (moment run)
+  moment (offered {h} {out} {s} ps fs w (Ok tt) t run b a) =
       let m : At h s = moment run in
       let o : Accepted = record { what = w; depth = s.core.depth } in
       let none = none_fits (offer_checks set ps fs w s) (sym a.fault) in
@@ -133,5 +154,7 @@ module _ (set : Shape → Bool) (d : Draft) (sheet : Sheet) where
         vf = one_more vf_naming 6 set sheet (vf_laws sheet) h o s.vf.entries (tally_in Vf s.core.tallies) m.vf;
         ee = one_more ee_naming 9 set sheet (ee_laws sheet) h o s.ee.entries (tally_in Ee s.core.tallies) m.ee;
       })
-  moment (offered {h} {s} ps fs w (Err x) t run b a) = rw a.state (moment run)
-  moment (asked {h} {s} t run e) = rw e (moment run)
+  moment (offered {h} {out} {s} ps fs w (Err x) t run b a) = rw a.state (moment run)
+  moment (taken {h} {out} {s} l i q r t run a c) = let e = taken-entries l i q (lists_in s) r (lists_in t) a in rw (c, e.0, e.1) (moment run)
+  moment (handed_in {h} {s} before after x how r t run a c) = let e = handed-entries x.list x how (lists_in s) r (lists_in t) a in rw (c, e.0, e.1) (moment run)
+  moment (asked {h} {out} {s} t run e) = rw e (moment run)

@@ -28,7 +28,7 @@ module _ (set : Shape → Bool) (ps : List Point) (fs : List Face) where
   -- ---- a run goes on by what is worked
   module _ (d : Draft) where
     abbrev Runs : List Accepted → State → Type 0
-    Runs = Run set d (sheet_in d ps fs)
+    Runs h s = Run set d (sheet_in d ps fs) h [] s
 
     pub worked-runs : (h : List Accepted) (qs : List Request) (rs : List Answer) (s t : State) → Runs h s → Calls set ps fs qs rs s t → Runs (history_from h s.core.depth qs rs) t
     worked-runs h [] [] s t r w = asked t r w

@@ -10,6 +10,7 @@ use Rattle.inspection.specs.declared.classes.Tally.{Tally}
 use Rattle.motion.specs.declared.shapes.Kind.TheVariants.{Vf, Ee}
 use Rattle.inspection.specs.declared.names.VfName.{VfName}
 use Rattle.inspection.specs.declared.names.EeName.{EeName}
+use Rattle.inspection.specs.declared.slips.Slip.{Slip}
 use Rattle.inspection.specs.Tallies.{total, tally_in}
 use Rattle.inspection.specs.Offerings.{Offering, Faces, SameOffering}
 use Rattle.inspection.specs.Sheets.{Sheet, face_at}
@@ -105,7 +106,8 @@ pub record Claim
   -- another run over the same sheet, of any draft, by a filter of the same set, lists nothing that
   -- is lacking here, where its offers were accepted here
   pub again : (set' : Shape → Bool) → Agree set set'
-      → (d' : Draft) (other : List Accepted) (t : State) → Run set' d' sheet other t
+      → (d' : Draft) (other : List Accepted) (out : List Slip) (t : State)
+      → Run set' d' sheet other out t
       → MatchesOffers history other
       → Covers vf_naming.same vfs t.vf.entries
       × Covers ee_naming.same ees t.ee.entries
@@ -115,5 +117,5 @@ pub record Claim
 -- what every run that ends in this state has found
 abbrev pub Findings : (Shape → Bool) → State → Type 0
 Findings set s =
-    (d : Draft) (sheet : Sheet) (history : List Accepted) → Run set d sheet history s
-    → Claim set d sheet history s.core s.vf.entries s.ee.entries
+    (d : Draft) (sheet : Sheet) (history : List Accepted) (out : List Slip)
+    → Run set d sheet history out s → Claim set d sheet history s.core s.vf.entries s.ee.entries

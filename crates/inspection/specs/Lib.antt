@@ -2,12 +2,14 @@ pub mod Tallies
 pub mod Names
 pub mod Pairs
 pub mod Sheets
+pub mod Marks
 pub mod Lists
 pub mod Offerings
 pub mod Tests
 pub mod Classes
 pub mod Judges
 pub mod Faults
+pub mod Slips
 pub mod States
 pub mod Offers
 pub mod Windows
@@ -15,3 +17,5 @@ pub mod Runs
 pub mod Requests
 pub mod Alike
 pub mod Claims
+pub mod SlipsOut
+pub mod Blind

@@ -1,30 +1,63 @@
 -- What a list holds.
-use Rattle.std.specs.Prelude.{ℕ, ◌-◌, Bool, List, [], ◌++◌, length, take, drop}
+use Rattle.std.specs.Prelude.{ℕ, ◌-◌, Bool, List, [], ◌∷◌, ◌++◌, length, take, drop, map, replicate}
 use Rattle.std.specs.List.{list_any}
 use Rattle.inspection.specs.declared.lists.List.{List as Listing}
+use Rattle.inspection.specs.declared.marks.Mark.{Mark}
+use Rattle.inspection.specs.declared.marks.Mark.TheVariants.{Free}
+use Rattle.inspection.specs.declared.marks.Marked.{Marked}
 
--- its entries, the rest of its table, and who lent the table
+-- its entries, by their names; the mark of each; the rest of its table; and who lent the table
 pub record Contents (E : Type 0) : Type 0 where
   pub entries : List E
-  pub rest : List E
+  pub marks : List Mark
+  pub rest : List (Marked E)
   pub lender : ℕ
+
+abbrev pub names : {E : Type 0} → List (Marked E) → List E
+names places = map (λ p. p.name) places
+
+abbrev pub marks : {E : Type 0} → List (Marked E) → List Mark
+marks places = map (λ p. p.mark) places
+
+-- the places with these names and marks
+abbrev pub places : {E : Type 0} → List E → List Mark → List (Marked E)
+places [] ms = []
+places (e ∷ es) [] = []
+places (e ∷ es) (m ∷ ms) = record { name = e; mark = m } ∷ places es ms
 
 abbrev pub contents_of : {E : Type 0} → Listing E → Contents E
 contents_of l =
     let table = l.table.now in
-    record { entries = take l.len table; rest = drop l.len table; lender = l.table.ghost_name }
+    record {
+      entries = names (take l.len table);
+      marks = marks (take l.len table);
+      rest = drop l.len table;
+      lender = l.table.ghost_name;
+    }
 
 abbrev pub entries : {E : Type 0} → Listing E → List E
 entries l = (contents_of l).entries
 
--- grown to these entries
+-- grown to these entries: the new ones are free
 abbrev pub grown_to : {E : Type 0} → List E → Contents E → Contents E
 grown_to es h =
-    record { entries = es; rest = drop (length es - length h.entries) h.rest; lender = h.lender }
+    let more = length es - length h.entries in
+    record {
+      entries = es;
+      marks = h.marks ++ replicate more Free;
+      rest = drop more h.rest;
+      lender = h.lender;
+    }
 
 -- the same table, and no entry
 abbrev pub without_entries : {E : Type 0} → Contents E → Contents E
-without_entries h = record { entries = []; rest = h.entries ++ h.rest; lender = h.lender }
+without_entries h =
+    record {
+      entries = [];
+      marks = [];
+      rest = places h.entries h.marks ++ h.rest;
+      lender = h.lender;
+    }
 
 -- some entry is the same
 abbrev pub has : {E : Type 0} → (E → E → Bool) → E → List E → Bool

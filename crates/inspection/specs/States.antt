@@ -9,6 +9,7 @@ use Rattle.inspection.specs.declared.names.VfName.{VfName}
 use Rattle.inspection.specs.declared.names.EeName.{EeName}
 use Rattle.inspection.specs.Tallies.{no_tests, sum_of, tally_in}
 use Rattle.inspection.specs.Lists.{Contents, contents_of, without_entries}
+use Rattle.inspection.specs.Slips.{Lists}
 
 -- of the inspection itself, but for its filter
 pub record Core : Type 0 where
@@ -28,6 +29,9 @@ core_of i =
 
 abbrev pub state_of : {F : Type 0} → Inspection F → Listing VfName → Listing EeName → State
 state_of i vf ee = record { core = core_of i; vf = contents_of vf; ee = contents_of ee }
+
+abbrev pub lists_in : State → Lists
+lists_in s = record { vf = s.vf; ee = s.ee }
 
 -- just opened
 abbrev pub core_at_start : Draft → ℕ → Core

@@ -38,10 +38,10 @@ impl<'a, F: Filter> Judge<'a, F> {
         struck
     }
 
-    /// The class of a test: `old` are the list's entries, `new` those that the offer adds so far.
-    fn class_of<E: TestName>(&self, e: E, old: &[E], new: &[E]) -> Class
+    /// The class of a test: `new` are the entries that the offer adds so far.
+    fn class_of<E: TestName>(&self, e: E, list: &List<'_, E>, new: &[E]) -> Class
         ensures { let rules = rules_of F.struck E.naming self.now in
-            result ≡ class_of rules (old.now ++ new.now) e }
+            result ≡ class_of rules (entries list.now ++ new.now) e }
     {
         if e.is_shared(self.rows) {
             return Class::Shared;
@@ -49,7 +49,7 @@ impl<'a, F: Filter> Judge<'a, F> {
         if self.strikes(e) {
             return Class::Struck;
         }
-        if is_among(&e, old) || is_among(&e, new) {
+        if list.holds(&e) || is_among(&e, new) {
             return Class::Repeated;
         }
         Class::Kept
@@ -72,9 +72,8 @@ impl<'a, F: Filter> Judge<'a, F> {
     {
         let mut new = ArrayVec::new();
         let mut tally = Tally::none();
-        let old = list.entries();
         for e in tests {
-            let class = self.class_of(*e, old, new.as_slice());
+            let class = self.class_of(*e, list, new.as_slice());
             tally.count(class);
             push_kept(&mut new, class, *e);
         }

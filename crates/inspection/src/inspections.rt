@@ -28,9 +28,11 @@ use motion::Kind;
 use sheet::{Draft, Face, Point};
 
 mod closing;
+mod reviewing;
 mod working;
 
 pub use closing::Closed;
+pub use reviewing::SlipsOut;
 pub use working::{Worked, inspect};
 
 /// An inspection of a sheet's step. It holds the draft, so that there is no other of the sheet
@@ -199,7 +201,7 @@ impl<F: Filter> Inspection<F> {
             core_of self.new ≡ (if is_ok result then counted else old) }
         ensures filter { self.new.filter ≡ self.old.filter }
     {
-        if vf.free() < new.vf.len() || ee.free() < new.ee.len() {
+        if vf.room() < new.vf.len() || ee.room() < new.ee.len() {
             return Err(OfferFault::ListFull);
         }
         vf.extend(new.vf.as_slice());

@@ -1,5 +1,5 @@
 // The line of every fault of an inspection.
-use inspection::{OfferFault, OpeningFault, WindowFault};
+use inspection::{OfferFault, OpeningFault, ReturnFault, StandingFault, TakingFault, WindowFault};
 use sheet::Notice;
 use std::process::Abort;
 use std::test::Fail;
@@ -52,5 +52,27 @@ fn lines(rt: HostRuntime) -> Result<(), Fail> {
         &rt,
         WindowFault::NotOfTheSheet(5).notice(),
         "fault 19 window 5 0",
+    )?;
+    expect_line(
+        &rt,
+        TakingFault::NoSuchReviewer(9).notice(),
+        "fault 26 slip 9 0",
+    )?;
+    expect_line(
+        &rt,
+        TakingFault::NoSuchEntry(6).notice(),
+        "fault 22 slip 6 0",
+    )?;
+    expect_line(&rt, TakingFault::NotFree(3).notice(), "fault 27 slip 3 0")?;
+    expect_line(
+        &rt,
+        ReturnFault::NoSuchEntry(6).notice(),
+        "fault 22 slip 6 0",
+    )?;
+    expect_line(&rt, ReturnFault::NotTaken(3).notice(), "fault 28 slip 3 0")?;
+    expect_line(
+        &rt,
+        StandingFault::NoSuchEntry(6).notice(),
+        "fault 22 slip 6 0",
     )
 }

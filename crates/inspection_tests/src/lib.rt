@@ -20,4 +20,6 @@ mod requests;
 #[cfg(test)]
 mod rooms;
 #[cfg(test)]
+mod slips;
+#[cfg(test)]
 mod windows;

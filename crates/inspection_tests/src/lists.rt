@@ -1,16 +1,16 @@
 // An empty list over a table, for both kinds of entry.
-use inspection::{EeName, Entry, List, VfName};
+use inspection::{EeName, Entry, List, Marked, VfName};
 
 #[test]
 fn empty(rt: HostRuntime) {
     let name = VfName { point: 1, face: 2 };
-    let mut table = [name; 3];
+    let mut table = [Marked::new(name); 3];
     let list = List::new(&mut table);
     assert_eq!(rt; list.len(), 0);
     assert!(rt; list.is_empty());
-    assert_eq!(rt; list.free(), 3);
+    assert_eq!(rt; list.room(), 3);
     assert!(rt; list.get(0).is_none());
-    assert!(rt; list.entries().is_empty());
+    assert!(rt; list.places().is_empty());
     assert!(rt; !list.holds(&name));
 }
 

@@ -2,7 +2,7 @@
 use crate::nothing::Nothing;
 use crate::plans::{Inspected, crossing, hinged, open, tables, tally};
 use filters::DELIVERED;
-use inspection::{Counts, EeName, VfName};
+use inspection::{Counts, Marked, VfName};
 use sheet::Face;
 use std::test::Fail;
 
@@ -48,7 +48,7 @@ fn a_common_edge(rt: HostRuntime) -> Result<(), Fail> {
 fn a_point_twice(rt: HostRuntime) -> Result<(), Fail> {
     let mut plan = crossing()?;
     plan.faces[1] = Face { a: 3, b: 3, c: 4 };
-    let (mut vf, mut ee) = ([VfName::default(); 5], [EeName::default(); 6]);
+    let (mut vf, mut ee) = ([Marked::default(); 5], [Marked::default(); 6]);
     let mut inspected = open(plan, Nothing, 0, &mut vf, &mut ee)?;
     inspected.expect_offer(&rt, 0, 1, Ok(()));
     inspected.expect_counts(&rt, tally(5, 0, 0, 1), tally(6, 0, 0, 3));

@@ -1,8 +1,8 @@
 // Small plans, and inspections of them.
 use filters::{Earliest, Filter};
 use inspection::{
-    Counts, EeName, Inspection, List, OfferFault, Offering, OpeningFault, Tally, VfName,
-    WindowFault,
+    Counts, EeName, Handed, Inspection, List, Marked, OfferFault, Offering, OpeningFault,
+    RefusedSlip, Slip, SlipsOut, Standing, StandingFault, TakingFault, Tally, VfName, WindowFault,
 };
 use motion::Kind;
 use sheet::{Coords, Draft, Face, Point, read_sheet};
@@ -72,8 +72,8 @@ pub(crate) fn open<'t, F: Filter + Drop>(
     plan: Plan,
     filter: F,
     depth: u8,
-    vf_table: &'t mut [VfName],
-    ee_table: &'t mut [EeName],
+    vf_table: &'t mut [Marked<VfName>],
+    ee_table: &'t mut [Marked<EeName>],
 ) -> Result<Inspected<'t, F>, Fail> {
     let Plan {
         draft,
@@ -117,6 +117,30 @@ impl<F: Filter + Drop> Inspected<'_, F> {
 
     pub(crate) fn vf_entry(&self, entry: u32) -> Option<VfName> {
         self.vf.get(entry as usize)
+    }
+
+    pub(crate) fn take(
+        &mut self,
+        list: Kind,
+        entry: u32,
+        reviewer: u8,
+    ) -> Result<Slip, TakingFault> {
+        Slip::take(list, entry, reviewer, &mut self.vf, &mut self.ee)
+    }
+
+    pub(crate) fn hand_in(&mut self, slip: Slip, how: Handed) -> Result<(), RefusedSlip> {
+        slip.hand_in(how, &mut self.vf, &mut self.ee)
+    }
+
+    pub(crate) fn standing(&self, list: Kind, entry: u32) -> Result<Standing, StandingFault> {
+        match list {
+            Kind::Vf => self.vf.standing(entry),
+            Kind::Ee => self.ee.standing(entry),
+        }
+    }
+
+    pub(crate) fn slips_out(&self) -> SlipsOut {
+        self.inspection.slips_out(&self.vf, &self.ee)
     }
 
     pub(crate) fn set_depth(&mut self, depth: u8) -> Result<(), OpeningFault> {
@@ -227,8 +251,8 @@ impl<F: Filter + Drop> Inspected<'_, F> {
 }
 
 /// As many places as two faces have tests.
-pub(crate) fn tables() -> ([VfName; 6], [EeName; 9]) {
-    ([VfName::default(); 6], [EeName::default(); 9])
+pub(crate) fn tables() -> ([Marked<VfName>; 6], [Marked<EeName>; 9]) {
+    ([Marked::default(); 6], [Marked::default(); 9])
 }
 
 /// Kept, struck, shared and repeated.

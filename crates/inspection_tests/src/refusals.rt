@@ -1,7 +1,7 @@
 // What is refused changes nothing.
 use crate::nothing::Nothing;
 use crate::plans::{Plan, crossing, open, tables, tally};
-use inspection::{EeName, Inspection, List, OfferFault, Offering, OpeningFault, VfName};
+use inspection::{Inspection, List, Marked, OfferFault, Offering, OpeningFault, VfName};
 use sheet::{Face, Point};
 use std::process::Abort;
 use std::test::Fail;
@@ -14,7 +14,7 @@ fn refuses(
     pair: (u16, u16),
     fault: OfferFault,
 ) -> Result<(), Fail> {
-    let (mut vf, mut ee) = ([VfName::default(); 9], [EeName::default(); 12]);
+    let (mut vf, mut ee) = ([Marked::default(); 9], [Marked::default(); 12]);
     let mut inspected = open(crossing()?, Nothing, 2, &mut vf, &mut ee)?;
     let _ = inspected.offer(0, 1);
     let before = inspected.counts();

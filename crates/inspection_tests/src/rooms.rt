@@ -1,7 +1,7 @@
 // Lists with just enough places, and with one too few.
 use crate::nothing::Nothing;
 use crate::plans::{crossing, open, tables, tally};
-use inspection::{EeName, OfferFault, VfName};
+use inspection::{EeName, Marked, OfferFault, VfName};
 use std::process::Abort;
 use std::test::Fail;
 
@@ -9,8 +9,8 @@ use std::test::Fail;
 /// all is as it was.
 fn offer_to(
     rt: &impl Abort,
-    vf_table: &mut [VfName],
-    ee_table: &mut [EeName],
+    vf_table: &mut [Marked<VfName>],
+    ee_table: &mut [Marked<EeName>],
 ) -> Result<Result<(), OfferFault>, Fail> {
     let mut inspected = open(crossing()?, Nothing, 6, vf_table, ee_table)?;
     let answer = inspected.offer(0, 1);
@@ -30,14 +30,14 @@ fn enough(rt: HostRuntime) -> Result<(), Fail> {
 
 #[test]
 fn one_too_few(rt: HostRuntime) -> Result<(), Fail> {
-    let marked = VfName { point: 7, face: 7 };
-    let mut vf_table = [marked; 5];
-    let answer = offer_to(&rt, &mut vf_table, &mut [EeName::default(); 9])?;
+    let stray = VfName { point: 7, face: 7 };
+    let mut vf_table = [Marked::new(stray); 5];
+    let answer = offer_to(&rt, &mut vf_table, &mut [Marked::default(); 9])?;
     assert_eq!(rt; answer, Err(OfferFault::ListFull));
-    assert_eq!(rt; vf_table, [marked; 5]);
-    let mut vf_table = [marked; 6];
-    let answer = offer_to(&rt, &mut vf_table, &mut [EeName::default(); 8])?;
+    assert_eq!(rt; vf_table.map(|place| place.name), [stray; 5]);
+    let mut vf_table = [Marked::new(stray); 6];
+    let answer = offer_to(&rt, &mut vf_table, &mut [Marked::default(); 8])?;
     assert_eq!(rt; answer, Err(OfferFault::ListFull));
-    assert_eq!(rt; vf_table, [marked; 6]);
+    assert_eq!(rt; vf_table.map(|place| place.name), [stray; 6]);
     Ok(())
 }

@@ -101,7 +101,7 @@ covering d ps fs =
     let points = take d.points ps in
     let reach = λ (k : ℕ). in_reach (get_or points k nowhere) (point_at s k) (get_or-map_default moving_of points k nowhere) in
     record {
-      runs = λ set law history t run has_all. whole_sheet s reach set d history t.core t.vf.entries t.ee.entries (claim law d s history t run) has_all;
+      runs = λ set law history out t run has_all. whole_sheet s reach set d history t.core t.vf.entries t.ee.entries (claim law d s history out t run) has_all;
       claims = λ set history core vfs ees c has_all. whole_sheet s reach set d history core vfs ees c has_all;
       far = far_ones s reach;
     }

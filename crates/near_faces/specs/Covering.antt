@@ -9,6 +9,7 @@ use Rattle.inspection.specs.Claims.{Claim}
 use Rattle.inspection.specs.Lists.{has}
 use Rattle.inspection.specs.Offerings.{SameOffering}
 use Rattle.inspection.specs.declared.offerings.Offering.TheVariants.{Faces}
+use Rattle.inspection.specs.declared.slips.Slip.{Slip}
 use Rattle.inspection.specs.Runs.{Accepted, Run}
 use Rattle.inspection.specs.Sheets.{Sheet, face_at}
 use Rattle.inspection.specs.States.{Core, State}
@@ -47,8 +48,8 @@ pub record FarApart (s : Sheet) : Type 0 where
 -- ---- offered all, these pairs cover the sheet
 pub record CoversSheet (d : Draft) (s : Sheet) (ps : List Pair) : Type 0 where
   -- after every run, by whatever lawful set, whose accepted offers have them
-  pub runs : (set : Shape → Bool) → Lawful set → (history : List Accepted) (t : State)
-      → Run set d s history t → HasAll ps history
+  pub runs : (set : Shape → Bool) → Lawful set → (history : List Accepted)
+      (out : List Slip) (t : State) → Run set d s history out t → HasAll ps history
       → WholeSheetApart s t.vf.entries t.ee.entries
   -- and by whatever claim on such offers
   pub claims : (set : Shape → Bool) (history : List Accepted) (core : Core)

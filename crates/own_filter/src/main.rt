@@ -12,7 +12,7 @@ mod stacked;
 
 use by_hand::inspect_by_hand;
 use filters::{Filter, Row, Test, delivered_filter, struck_at};
-use inspection::{EeName, List, VfName};
+use inspection::{List, Marked};
 use lent::Lent;
 use motion::{Moving, Shape, V3};
 use sheet::{Coords, Face, Point, read_sheet};
@@ -48,8 +48,8 @@ fn inspect(rt: &HostRuntime) -> io::Result<()> {
         first: Stacked,
         second: delivered_filter(),
     };
-    let mut vf_table = [VfName::default(); 6];
-    let mut ee_table = [EeName::default(); 9];
+    let mut vf_table = [Marked::default(); 6];
+    let mut ee_table = [Marked::default(); 9];
     let mut vf = List::new(&mut vf_table);
     let mut ee = List::new(&mut ee_table);
     match inspect_by_hand(draft, filter, &points, &faces, &mut vf, &mut ee, 0, 1) {

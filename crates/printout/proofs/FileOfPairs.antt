@@ -297,7 +297,7 @@ module _ (p : Plan) (d : Draft) (ps : List Point) (fs : List Face) (h : HoldsPla
         claim found none =
             subst (λ (k : Draft × Sheet × List Accepted × Found). Claim delivered k.0 k.1 k.2 k.3.core k.3.vf k.3.ee)
             (λ i. ((m.draft ∙ h.draft) i, same_sheet i, ap (λ w. w.accepted) whole_walk i, (m.found ∙ ap (λ w. w.found) whole_walk) i))
-            (found t.core.draft (sheet_in t.core.draft ps fs) (over (pairs_came es)).accepted m.run)
+            (found t.core.draft (sheet_in t.core.draft ps fs) (over (pairs_came es)).accepted [] m.run)
 
         ends : (how : Result Ending (Call PlanFile)) → LeavesUntold how told.rest → IfOk how (λ end. (end ≡ Complete) × Findings delivered t) → IfOk how (Ends p told.rest [])
         ends (Err call) untold found = tt

@@ -103,7 +103,7 @@ module _ (set : Shape → Bool) (ps : List Point) (fs : List Face) (o : Offering
           rows = m.rows;
           vf = lists_after vf_naming s.vf m.vf new.0 (omega (arith, before.vf.counts.kept, now.vf.counts.kept)) fits.0;
           ee = lists_after ee_naming s.ee m.ee new.1 (omega (arith, before.ee.counts.kept, now.ee.counts.kept)) fits.1;
-          run = subst (λ k. Run set s.core.draft here (w.accepted ++ (record { what = o; depth = k } ∷ [])) after) (ap (λ f. f.core.depth) m.found) run;
+          run = subst (λ k. Run set s.core.draft here (w.accepted ++ (record { what = o; depth = k } ∷ [])) [] after) (ap (λ f. f.core.depth) m.found) run;
         })
 
     made : (r : Result (Unit {0}) OfferFault) (t : State) → OfferCall set ps fs o s r t → Made set d ps fs (offered set sheet w o) t

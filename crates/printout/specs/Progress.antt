@@ -47,7 +47,7 @@ pub record Made
   pub rows : IsFalse (lacks_rows s.core.draft ps fs)
   pub vf : Listed vf_naming (sheet_in s.core.draft ps fs) s.vf
   pub ee : Listed ee_naming (sheet_in s.core.draft ps fs) s.ee
-  pub run : Run set s.core.draft (sheet_in s.core.draft ps fs) w.accepted s
+  pub run : Run set s.core.draft (sheet_in s.core.draft ps fs) w.accepted [] s
 
 -- an inspection in the state s is just opened: over any tables of the draft's rows
 unfoldable pub Begins : Draft → State → Type 0

@@ -18,7 +18,7 @@ use crate::plan_files::PlanFile;
 use crate::tables::Tables;
 use filters::{Delivered, Filter, delivered_filter};
 use hosts::Host;
-use inspection::{EeName, Entry, Inspection, List, VfName};
+use inspection::{EeName, Entry, Inspection, List, Marked, VfName};
 use report::print_report;
 use sheet::{Draft, Face, Point};
 
@@ -93,8 +93,8 @@ pub(crate) fn inspect_pairs<H: Host<File = PlanFile>>(
     ensures { RunsFromPairs H.does H.fails draft tables.old.points tables.old.faces
         host.old result host.new }
 {
-    let mut vf_table = [VfName::default(); ROOM];
-    let mut ee_table = [EeName::default(); ROOM];
+    let mut vf_table = [Marked::default(); ROOM];
+    let mut ee_table = [Marked::default(); ROOM];
     let mut vf = list_over(&mut vf_table);
     let mut ee = list_over(&mut ee_table);
     let mut inspection = open_plan(draft, &mut vf, &mut ee);
@@ -110,7 +110,7 @@ pub(crate) fn inspect_pairs<H: Host<File = PlanFile>>(
 }
 
 /// A list over a table that has room for all entries that a list may have.
-fn list_over<E: Entry>(table: &mut [E; ROOM]) -> List<'_, E>
+fn list_over<E: Entry>(table: &mut [Marked<E>; ROOM]) -> List<'_, E>
     ensures { length (without_entries (contents_of result)).rest ≡ room }
 {
     List::new(table)

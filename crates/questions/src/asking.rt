@@ -45,12 +45,12 @@ pub(crate) fn ask_about_list<F: Filter, E: Named>(
     faces: &[Face],
     list: &List<'_, E>,
 ) -> io::Result<()> {
-    for (number, entry) in (0..u32::MAX).zip(list.entries().iter()) {
+    for (number, place) in (0..u32::MAX).zip(list.places().iter()) {
         let window = inspection.window(points, faces, list, number);
         let earliest = inspection.earliest(points, faces, list, number);
         match (window, earliest) {
             (Ok(window), Ok(earliest)) => {
-                entry.print(rt)?;
+                place.name.print(rt)?;
                 print_answers(rt, window, earliest)?;
             }
             (Err(fault), _) | (_, Err(fault)) => println!(rt; "{}", fault.notice())?,

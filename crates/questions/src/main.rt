@@ -7,7 +7,7 @@ use asking::ask_about_list;
 use commands::{About, Given, given};
 use files::tell;
 use filters::DELIVERED;
-use inspection::{EeName, Inspection, List, VfName};
+use inspection::{Inspection, List, Marked};
 use printout::pair_offerings;
 use sheet::{FACE_LIMIT, Face, Notice, POINT_LIMIT, Point, read_sheet};
 use std::alloc::AllocError;
@@ -112,8 +112,8 @@ fn ask_in_folder(rt: &HostRuntime, folder: &str) -> Result<u8, Stop> {
     if let Err(fault) = lay(&draft, &step, &mut points) {
         return refuse(rt, fault.notice());
     }
-    let mut vf_table = [VfName::default(); ENTRIES];
-    let mut ee_table = [EeName::default(); ENTRIES];
+    let mut vf_table = [Marked::default(); ENTRIES];
+    let mut ee_table = [Marked::default(); ENTRIES];
     let mut vf = List::new(&mut vf_table);
     let mut ee = List::new(&mut ee_table);
     let mut inspection = match Inspection::open(draft, DELIVERED, DEPTH, &mut vf, &mut ee) {

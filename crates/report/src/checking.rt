@@ -32,7 +32,7 @@ fn check_entries<E: HasLine>(rows: Rows<'_>, list: &List<'_, E>) -> Result<(), R
         ≡ first_fit (checks (sheet_of_rows rows.entry) (entries list.now)) }
 {
     for (i, e) in numbered(list).iter().enumerate() {
-        if !e.is_inside(rows) {
+        if !e.name.is_inside(rows) {
             return Err(ReportFault::NotOfTheSheet(i as u32, E::kind()));
         }
     }

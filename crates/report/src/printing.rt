@@ -118,7 +118,7 @@ fn print_entries<F: Filter, E: HasLine, H: Host>(
         OnOk result (length (flat_map line (numbered (entries list.now))) ≤ 96 * 4294967296) }
 {
     for e in numbered(list) {
-        print_entry(inspection, rows, *e, host)?;
+        print_entry(inspection, rows, e.name, host)?;
     }
     Ok(())
 }

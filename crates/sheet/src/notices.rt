@@ -13,8 +13,8 @@ use std::fmt;
 pub type FaultLine = ArrayString<39>;
 
 /// What refused: the reader of a field, of a line, of a sheet or of a step, the writer of a step, a
-/// call of an inspection (its opening, an offer, a window), the report, or the search for near
-/// faces.
+/// call of an inspection (its opening, an offer, a window), the report, the search for near faces,
+/// or a call about a reviewer's slip.
 #[derive(Clone, Copy, Debug, PartialEq, Eq)]
 pub enum Layer {
     Field,
@@ -27,6 +27,7 @@ pub enum Layer {
     Window,
     Report,
     Search,
+    Slip,
 }
 
 /// A fault in numbers: which it is, who refused, and its two places.
@@ -55,6 +56,7 @@ impl Layer {
             Layer::Window => "window",
             Layer::Report => "report",
             Layer::Search => "search",
+            Layer::Slip => "slip",
         }
     }
 }

@@ -1,5 +1,5 @@
 // A whole inspection from an opening on, by a list of requests.
-ghost use Rattle.std.specs.Prelude.{◌≡◌, min, length, take, drop, IfOk, IfErr, OnErr};
+ghost use Rattle.std.specs.Prelude.{◌≡◌, [], min, length, take, drop, IfOk, IfErr, OnErr};
 ghost use Rattle.sheet.specs.Checks.{first_fit, fault_notice};
 ghost use Rattle.inspection.specs.Faults.{notice_of_opening};
 ghost use Rattle.inspection.specs.Sheets.{sheet_in};
@@ -90,7 +90,7 @@ pub fn inspect<F: Filter>(
     ensures filter { IfOk result (λ w. w.inspection.filter ≡ filter) }
     ensures run { IfOk result (λ w.
         Run (F.Filter.struck filter) draft (sheet_in draft points.now faces.now)
-        (history depth (take w.answered requests.now) (take w.answered answers.new))
+        (history depth (take w.answered requests.now) (take w.answered answers.new)) []
         (state_of w.inspection vf.new ee.new)) }
     ensures claim { IfOk result (λ w.
         Claim (F.Filter.struck filter) draft (sheet_in draft points.now faces.now)

@@ -28,7 +28,7 @@ returns-clause-offered g c =
     let first = rw (c.open-inspection.ensures.state, e0) at c.in-Some.ensures.call in
     let before : v ≡ deeper t = (λ k. record { core = c.in-Ok.ensures.call.core k; vf = u.vf; ee = u.ee }) ∙ ap deeper c.offer_in_vain.ensures.state in
     let second = subst (λ (s : State). OfferCall set ps fs (Faces a.second a.first) s r w) before (rw e3 at c.offer_turned.ensures.call) in
-    let start = opened {s = state_at_start a.draft 2 (contents_of a.vf.now) (contents_of a.ee.now)} (record { depth = lit≤ tt; core = refl; vf = refl; ee = refl }) in
+    let start = opened {s = state_at_start a.draft 2 (contents_of a.vf.now) (contents_of a.ee.now)} (record { depth = lit≤ tt; core = refl; vf = refl; ee = refl; vf_marks = refl; ee_marks = refl }) in
     let once = offered ps fs (Faces a.first a.second) (Ok tt) t start (λ h. refl) first in
     let run = offered ps fs (Faces a.second a.first) r w (depth_set 3 (Ok tt) (deeper t) once (record { fault = refl; core = refl }) refl refl) (λ h. refl) second in
     record {
@@ -38,5 +38,5 @@ returns-clause-offered g c =
       answer = r;
       second = second;
       counted = λ k. record { vf = c.findings.ensures.vf k; ee = c.findings.ensures.ee k };
-      claim = (rw e4 at c.findings.ensures.claim) a.draft (sheet_in a.draft ps fs) _ run;
+      claim = (rw e4 at c.findings.ensures.claim) a.draft (sheet_in a.draft ps fs) _ _ run;
     }

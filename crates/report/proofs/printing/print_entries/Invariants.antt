@@ -1,5 +1,5 @@
 use Rattle.std.proofs.Common.{◌+◌, ◌*◌, ◌≤◌, length, drop, flat_map}
-use Rattle.inspection.specs.Lists.{entries}
+use Rattle.inspection.specs.Lists.{entries, names}
 use Rattle.inspection.specs.Sheets.{sheet_of_rows}
 use Rattle.report.specs.Reports.{view_over, numbered, entry_line}
 use Rattle.report.proofs.Entries.{Leaves}
@@ -10,7 +10,7 @@ abbrev pub invariant-loop-e : goal.invariant-loop-e
 invariant-loop-e g l =
     let line = entry_line g.E.TestName.naming (view_over g.F.Filter.struck l.inspection (sheet_of_rows l.rows)) g.E.HasLine.line in
     let all = flat_map line (numbered (entries l.list)) in
-    let left = flat_map line (drop l.e-index (numbered (entries l.list))) in
+    let left = flat_map line (names (drop l.e-index l.e-items)) in
     record {
       printed : Leaves g.H.Host.does g.H.Host.fails all left l.fn.host l.host;
       short : length all ≤ 96 * l.e-index + length left;

@@ -19,14 +19,14 @@ returns-clause-run g c =
     let set = g.F.Filter.struck a.filter in
     let s : State = state_at_start a.draft a.depth (contents_of a.vf.now) (contents_of a.ee.now) in
     let t : State = state_of l.inspection l.vf l.ee in
-    subst (λ (j : ℕ). Run set a.draft (sheet_in a.draft a.points.now a.faces.now) (history a.depth (take j a.requests.now) (take j l.answers)) t) n
-    (worked-runs set a.points.now a.faces.now a.draft [] (take l.i a.requests.now) (take l.i l.answers) s t (opened (record { depth = k; core = refl; vf = refl; ee = refl })) l.invariant.calls)
+    subst (λ (j : ℕ). Run set a.draft (sheet_in a.draft a.points.now a.faces.now) (history a.depth (take j a.requests.now) (take j l.answers)) [] t) n
+    (worked-runs set a.points.now a.faces.now a.draft [] (take l.i a.requests.now) (take l.i l.answers) s t (opened (record { depth = k; core = refl; vf = refl; ee = refl; vf_marks = refl; ee_marks = refl })) l.invariant.calls)
 
 pub returns-clause-claim : goal.returns-clause-claim
 returns-clause-claim g c =
     let a = c.args in
     let n = c.min-n.result in
-    claim (g.F.Filter.lawful a.filter) a.draft (sheet_in a.draft a.points.now a.faces.now) (history a.depth (take n a.requests.now) (take n c.loop-i.answers))
+    claim (g.F.Filter.lawful a.filter) a.draft (sheet_in a.draft a.points.now a.faces.now) (history a.depth (take n a.requests.now) (take n c.loop-i.answers)) []
     (state_of c.loop-i.inspection c.loop-i.vf c.loop-i.ee) (returns-clause-run g c)
 
 pub returns-clause-alike : goal.returns-clause-alike

@@ -1,0 +1,23 @@
+-- What every run says of the slips that are out.
+use Rattle.std.specs.Prelude.{◌≡◌, Bool, List, count_by}
+use Rattle.sheet.specs.declared.drafts.Draft.{Draft}
+use Rattle.motion.specs.declared.shapes.Kind.{Kind}
+use Rattle.motion.specs.declared.shapes.Shape.{Shape}
+use Rattle.inspection.specs.declared.slips.Slip.{Slip}
+use Rattle.inspection.specs.Marks.{is_taken}
+use Rattle.inspection.specs.Sheets.{Sheet}
+use Rattle.inspection.specs.Slips.{OneToOne, is_slip_of, marks_in}
+use Rattle.inspection.specs.States.{State, lists_in}
+use Rattle.inspection.specs.Runs.{Accepted, Run}
+
+-- with these slips out: they and the entries taken agree one to one, and in number
+pub record SlipsAgree (out : List Slip) (s : State) : Type 0 where
+  pub one_to_one : OneToOne out (lists_in s)
+  pub number : (l : Kind)
+      → count_by (is_slip_of l) out ≡ count_by is_taken (marks_in l (lists_in s))
+
+-- whatever run ends here
+abbrev pub NoneLost : (Shape → Bool) → State → Type 0
+NoneLost set s =
+    (d : Draft) (sheet : Sheet) (history : List Accepted) (out : List Slip)
+    → Run set d sheet history out s → SlipsAgree out s
