@@ -1,1 +1,3 @@
 pub mod Entries
+pub mod WholeLines
+pub mod Told

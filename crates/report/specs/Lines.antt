@@ -1,4 +1,4 @@
--- The lines of a report, in bytes.
+-- The lines of a report, in bytes, without their line feeds.
 use Rattle.std.specs.Prelude.{ℕ, List, [], ◌∷◌, ◌++◌, Some, None, Option, codes, decimal}
 use Rattle.inspection.specs.declared.classes.Tally.{Tally}
 use Rattle.inspection.specs.declared.names.VfName.{VfName}
@@ -17,7 +17,7 @@ spaced [] = []
 spaced (p ∷ ps) = (codes " " ++ p) ++ spaced ps
 
 abbrev pub line : Kind → List (List ℕ) → List ℕ
-line l parts = (word_of l ++ spaced parts) ++ codes "\n"
+line l parts = word_of l ++ spaced parts
 
 -- a window, which may be absent
 abbrev pub window_parts : Option (ℕ × ℕ) → List (List ℕ)

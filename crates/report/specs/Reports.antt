@@ -1,5 +1,5 @@
 -- The report of an inspection: its text, and the checks of the call in their order.
-use Rattle.std.specs.Prelude.{ℕ, ◌+◌, Bool, not, List, [], ◌∷◌, ◌++◌, length, take, Option, is_none, if◌then◌else◌, nat_lt, flat_map}
+use Rattle.std.specs.Prelude.{ℕ, ◌+◌, Bool, not, List, [], ◌∷◌, ◌++◌, length, take, Option, is_none, if◌then◌else◌, nat_lt, flat_map, codes}
 use Rattle.sheet.specs.declared.notices.Layer.TheVariants.{Report}
 use Rattle.sheet.specs.Checks.{Check, first_fit, check}
 use Rattle.sheet.specs.declared.rows.Point.{Point}
@@ -46,7 +46,7 @@ numbered es = take entry_limit es
 -- an entry, with its window at the depth now set
 abbrev pub entry_line : {E : Type 0}
     → Naming E → View → (E → Option (ℕ × ℕ) → List ℕ) → E → List ℕ
-entry_line n v line e = line e (window_at v.set v.core.depth (n.shape v.sheet e))
+entry_line n v line e = line e (window_at v.set v.core.depth (n.shape v.sheet e)) ++ codes "\n"
 
 -- by what its entries name, and which list it is
 module _ {E : Type 0} (n : Naming E) (l : Kind) where
@@ -61,7 +61,8 @@ module _ {E : Type 0} (n : Naming E) (l : Kind) where
 
   -- its entries, and its counts
   abbrev pub section : View → (E → Option (ℕ × ℕ) → List ℕ) → List E → Tally → List ℕ
-  section v line es t = flat_map (entry_line n v line) (numbered es) ++ count_line l t
+  section v line es t =
+      flat_map (entry_line n v line) (numbered es) ++ (count_line l t ++ codes "\n")
 
 -- ---- of the entries of both lists
 unfoldable pub report_text : View → List VfName → List EeName → List ℕ

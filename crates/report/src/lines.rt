@@ -17,14 +17,14 @@ pub(crate) trait HasLine: TestName {
     // which list it stands on
     ghost kind: { Kind };
 
-    // its line, with its window
+    // its line, with its window, without the line feed
     ghost line: { Self → Option (ℕ × ℕ) → List ℕ };
 
     fn kind() -> Kind
         ensures { result ≡ kind };
 
     fn line(self, window: Option<(u8, u8)>) -> ReportLine
-        ensures { result.bytes ≡ line self window };
+        ensures { result.bytes ≡ line self window ++ codes "\n" };
 }
 
 impl HasLine for VfName {
@@ -73,7 +73,7 @@ impl HasLine for EeName {
 
 /// The line of the counts of a kind.
 pub(crate) fn count_line(list: Kind, tally: Tally) -> ReportLine
-    ensures { result.bytes ≡ count_line list tally }
+    ensures { result.bytes ≡ count_line list tally ++ codes "\n" }
 {
     let mut line = start(list);
     line.push_str(" kept");

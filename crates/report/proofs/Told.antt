@@ -1,0 +1,163 @@
+-- What is listed has its line in a report, and what such lines settle.
+use Rattle.std.proofs.Common.{◌≡◌, ◌⊎◌, ℕ, ◌<◌, Bool, true, false, ◌&&◌, eqb, List, [], ◌∷◌, ◌++◌, map, length, get_or, take, Option, Some, None, All, Contains, IsTrue, IsFalse, refl, sym, ap, ◌∙◌, subst, inl, inr, arith}
+use Rattle.std.specs.Prelude.{codes, decimal, flat_map}
+use Rattle.std.specs.List.{list_all}
+use Rattle.std.proofs.Math.ListN.{get_or-map}
+use Rattle.std.proofs.lemmas.Bool.{and_from, and_parts}
+use Rattle.std.proofs.lemmas.Bool.Decides.{nat_tests}
+use Rattle.std.proofs.lemmas.List.{length-map}
+use Rattle.std.proofs.lemmas.List.Elements.{All-weaker, All-append, All-nil, All-cons, Contains-append_left, Contains-append_right}
+use Rattle.std.proofs.lemmas.Map.Views.{Contains-from_any}
+use Rattle.motion.specs.Laws.{Apart}
+use Rattle.motion.specs.Depths.{window_at}
+use Rattle.motion.specs.declared.shapes.Kind.{Kind}
+use Rattle.motion.specs.declared.shapes.Kind.TheVariants.{Vf, Ee}
+use Rattle.inspection.specs.declared.classes.Tally.{Tally}
+use Rattle.inspection.specs.declared.names.VfName.{VfName}
+use Rattle.inspection.specs.declared.names.EeName.{EeName}
+use Rattle.inspection.specs.declared.offerings.Offering.{Offering}
+use Rattle.inspection.specs.Lists.{has}
+use Rattle.inspection.specs.Names.{vf_same, ee_same}
+use Rattle.inspection.specs.Sheets.{Sheet}
+use Rattle.inspection.specs.Tallies.{tally_in}
+use Rattle.inspection.specs.Tests.{Naming, vf_naming, ee_naming}
+use Rattle.sheet.specs.Lines.{lines_of}
+use Rattle.report.specs.Lines.{word_of, spaced, line, window_parts, vf_line, ee_line, count_line}
+use Rattle.report.specs.Reports.{View, entry_line, numbered, section, report_text}
+use Rattle.report.specs.Settled.{IsTold, TestsSettled, is_fault}
+use Rattle.report.proofs.WholeLines.{no_feed, AreLines, are_one, are_more, are_each, no_feed-append, no_feed-decimal}
+
+-- ---- the lines of a report
+no_feed-spaced : (ps : List (List ℕ)) → list_all no_feed ps ≡ true → no_feed (spaced ps) ≡ true
+no_feed-spaced [] h = refl
+no_feed-spaced (p ∷ ps) h =
+    let both = and_parts (no_feed p) (list_all no_feed ps) h in
+    no_feed-append (codes " " ++ p) (spaced ps) (no_feed-append (codes " ") p refl both.0) (no_feed-spaced ps both.1)
+
+no_feed-line : (l : Kind) (ps : List (List ℕ)) → list_all no_feed ps ≡ true → no_feed (line l ps) ≡ true
+no_feed-line Vf ps h = no_feed-append (word_of Vf) (spaced ps) refl (no_feed-spaced ps h)
+no_feed-line Ee ps h = no_feed-append (word_of Ee) (spaced ps) refl (no_feed-spaced ps h)
+
+no_feed-window : (w : Option (ℕ × ℕ)) → list_all no_feed (window_parts w) ≡ true
+no_feed-window None = refl
+no_feed-window (Some w) = and_from _ _ (no_feed-decimal w.0) (and_from _ _ (no_feed-decimal w.1) refl)
+
+no_feed-vf : (e : VfName) (w : Option (ℕ × ℕ)) → no_feed (vf_line e w) ≡ true
+no_feed-vf e w =
+    no_feed-line Vf (decimal e.point ∷ decimal e.face ∷ window_parts w)
+    (and_from _ _ (no_feed-decimal e.point) (and_from _ _ (no_feed-decimal e.face) (no_feed-window w)))
+
+no_feed-ee : (e : EeName) (w : Option (ℕ × ℕ)) → no_feed (ee_line e w) ≡ true
+no_feed-ee e w =
+    no_feed-line Ee (decimal e.u ∷ decimal e.v ∷ decimal e.k ∷ decimal e.l ∷ window_parts w)
+    (and_from _ _ (no_feed-decimal e.u) (and_from _ _ (no_feed-decimal e.v) (and_from _ _ (no_feed-decimal e.k) (and_from _ _ (no_feed-decimal e.l) (no_feed-window w)))))
+
+no_feed-count : (l : Kind) (t : Tally) → no_feed (count_line l t) ≡ true
+no_feed-count l t =
+    no_feed-line l
+    (codes "kept" ∷ decimal t.kept ∷ codes "struck" ∷ decimal t.struck ∷ codes "shared" ∷ decimal t.shared ∷ codes "repeated" ∷ decimal t.repeated ∷ [])
+    (and_from _ _ (no_feed-decimal t.kept) (and_from _ _ (no_feed-decimal t.struck) (and_from _ _ (no_feed-decimal t.shared) (and_from _ _ (no_feed-decimal t.repeated) refl))))
+
+-- with which byte a line begins
+abbrev pub begins : ℕ → List ℕ → Bool
+begins b l = eqb (get_or l 0 0) b
+
+-- a line of a report: it tells no fault, and is not the last of a run from two frames
+pub record IsPlain (l : List ℕ) : Type 0 where
+  pub fault : is_fault l ≡ false
+  pub covered : begins 99 l ≡ false
+  pub refused : begins 114 l ≡ false
+
+count_plain : (l : Kind) (t : Tally) → IsPlain (count_line l t)
+count_plain Vf t = record { fault = refl; covered = refl; refused = refl }
+count_plain Ee t = record { fault = refl; covered = refl; refused = refl }
+
+module _ {E : Type 0} (n : Naming E) (l : Kind) (v : View) (line_of : E → Option (ℕ × ℕ) → List ℕ) (whole : (e : E) (w : Option (ℕ × ℕ)) → no_feed (line_of e w) ≡ true) (inner : (e : E) (w : Option (ℕ × ℕ)) → IsPlain (line_of e w)) where
+  abbrev lined : E → List ℕ
+  lined e = line_of e (window_at v.set v.core.depth (n.shape v.sheet e))
+
+  module _ (es : List E) (t : Tally) where
+    abbrev section_lines : List (List ℕ)
+    section_lines = map lined (numbered es) ++ (count_line l t ∷ [])
+
+    section_are : AreLines (section n l v line_of es t) section_lines
+    section_are =
+        are_more (flat_map (entry_line n v line_of) (numbered es)) (count_line l t ++ codes "\n") (map lined (numbered es)) (count_line l t ∷ [])
+        (are_each lined (λ e. whole e _) (numbered es)) (are_one (count_line l t) (no_feed-count l t))
+
+    section_plain : All IsPlain section_lines
+    section_plain =
+        All-append IsPlain (map lined (numbered es)) (count_line l t ∷ []) (each (numbered es)) (All-cons IsPlain (count_line l t) [] (count_plain l t) (All-nil IsPlain))
+      where
+        each : (xs : List E) → All IsPlain (map lined xs)
+        each [] = All-nil IsPlain
+        each (x ∷ xs) = All-cons IsPlain (lined x) (map lined xs) (inner x _) (each xs)
+
+    in_section : (e : E) → Contains (numbered es) e → Contains section_lines (lined e)
+    in_section e (k, here, is) =
+        Contains-append_left (map lined (numbered es)) (count_line l t ∷ []) (lined e)
+        (k, omega (arith, length-map (numbered es) lined), get_or-map lined (numbered es) k e ∙ ap lined is)
+
+vf_plain : (e : VfName) (w : Option (ℕ × ℕ)) → IsPlain (vf_line e w)
+vf_plain e w = record { fault = refl; covered = refl; refused = refl }
+
+ee_plain : (e : EeName) (w : Option (ℕ × ℕ)) → IsPlain (ee_line e w)
+ee_plain e w = record { fault = refl; covered = refl; refused = refl }
+
+vf_equal : (x y : VfName) → vf_same x y ≡ true → x ≡ y
+vf_equal x y h = grind (arith, nat_tests)
+
+ee_equal : (x y : EeName) → ee_same x y ≡ true → x ≡ y
+ee_equal x y h = grind (arith, nat_tests)
+
+-- ---- of both lists
+module _ (v : View) (vf : List VfName) (ee : List EeName) where
+  abbrev vf_lines : List (List ℕ)
+  vf_lines = section_lines vf_naming Vf v vf_line no_feed-vf vf_plain vf (tally_in Vf v.core.tallies)
+
+  abbrev ee_lines : List (List ℕ)
+  ee_lines = section_lines ee_naming Ee v ee_line no_feed-ee ee_plain ee (tally_in Ee v.core.tallies)
+
+  pub report_lines : List (List ℕ)
+  report_lines = vf_lines ++ ee_lines
+
+  pub report_are : AreLines (report_text v vf ee) report_lines
+  unfolding report_text report_lines
+  report_are =
+      are_more (section vf_naming Vf v vf_line vf (tally_in Vf v.core.tallies)) (section ee_naming Ee v ee_line ee (tally_in Ee v.core.tallies)) vf_lines ee_lines
+      (section_are vf_naming Vf v vf_line no_feed-vf vf_plain vf (tally_in Vf v.core.tallies))
+      (section_are ee_naming Ee v ee_line no_feed-ee ee_plain ee (tally_in Ee v.core.tallies))
+
+  pub report_plain : All IsPlain report_lines
+  unfolding report_lines
+  report_plain =
+      All-append IsPlain vf_lines ee_lines
+      (section_plain vf_naming Vf v vf_line no_feed-vf vf_plain vf (tally_in Vf v.core.tallies))
+      (section_plain ee_naming Ee v ee_line no_feed-ee ee_plain ee (tally_in Ee v.core.tallies))
+
+  -- what is listed has its line
+  pub vf_told : (e : VfName) → has vf_same e (numbered vf) ≡ true → (w : Option (ℕ × ℕ)) × Contains report_lines (vf_line e w)
+  unfolding report_lines
+  vf_told e h =
+      (window_at v.set v.core.depth (vf_naming.shape v.sheet e), Contains-append_left vf_lines ee_lines _
+      (in_section vf_naming Vf v vf_line no_feed-vf vf_plain vf (tally_in Vf v.core.tallies) e (Contains-from_any vf_equal e (numbered vf) h)))
+
+  pub ee_told : (e : EeName) → has ee_same e (numbered ee) ≡ true → (w : Option (ℕ × ℕ)) × Contains report_lines (ee_line e w)
+  unfolding report_lines
+  ee_told e h =
+      (window_at v.set v.core.depth (ee_naming.shape v.sheet e), Contains-append_right vf_lines ee_lines _
+      (in_section ee_naming Ee v ee_line no_feed-ee ee_plain ee (tally_in Ee v.core.tallies) e (Contains-from_any ee_equal e (numbered ee) h)))
+
+-- ---- what is not listed stays apart, and what is listed is told
+pub settled_tests : {E : Type 0} (n : Naming E) (line_of : E → Option (ℕ × ℕ) → List ℕ) (s : Sheet) (text : List ℕ) (es : List E) (o : Offering)
+    → ((e : E) → has n.same e es ≡ true → IsTold text (line_of e))
+    → All (λ e. IsFalse (n.shared s e) → IsFalse (has n.same e es) → Apart (n.shape s e)) (n.tests s o)
+    → TestsSettled n line_of s text o
+settled_tests {E} n line_of s text es o told apart =
+    All-weaker (λ e. IsFalse (n.shared s e) → IsFalse (has n.same e es) → Apart (n.shape s e)) (λ e. IsTrue (n.shared s e) ⊎ (IsTold text (line_of e) ⊎ Apart (n.shape s e)))
+    (λ e h. by e h (n.shared s e) refl (has n.same e es) refl) (n.tests s o) apart
+  where
+    by : (e : E) → (IsFalse (n.shared s e) → IsFalse (has n.same e es) → Apart (n.shape s e)) → (a : Bool) → n.shared s e ≡ a → (b : Bool) → has n.same e es ≡ b → IsTrue (n.shared s e) ⊎ (IsTold text (line_of e) ⊎ Apart (n.shape s e))
+    by e h true is b in_list = inl is
+    by e h false is true in_list = inr (inl (told e in_list))
+    by e h false is false in_list = inr (inr (h is in_list))
