@@ -29,10 +29,12 @@ use Rattle.sheet.specs.declared.notices.Notice.{Notice}
 use Rattle.printout.specs.PairBytes.{offerings_in}
 use Rattle.motion.specs.Rows.{delivered}
 use Rattle.printout.specs.Printouts.{notice_line}
-use Rattle.printout.specs.Progress.{◌⊕◌, told_by, LeavesUntold, TellsText, FitsFile, NotRead, HoldsSheet, HoldsPlan, plan_told, Ends, Comes, after_sheet, AfterSheet, AfterStep, RunsFromPairs, RunsFromStep}
+use Rattle.printout.specs.Progress.{Told, ◌⊕◌, told_by, LeavesUntold, TellsText, FitsFile, NotRead, HoldsSheet, HoldsPlan, plan_told, Ends, Comes, after_sheet, AfterSheet, AfterStep, RunsFromPairs, RunsFromStep}
 use Rattle.printout.specs.Walks.{just_opened, walked, refusal_lines}
 use Rattle.printout.specs.declared.endings.Ending.TheVariants.{Complete, Faulty}
 use Rattle.printout.specs.declared.plan_files.PlanFile.TheVariants.{Pairs, Sheet, Step}
+use Rattle.printout.specs.Settled.{SettlesPlan}
+use Rattle.printout.proofs.Settling.{settled_plan}
 use Rattle.printout.proofs.Telling.{none_read, told_nothing, never_reads, told_print}
 use Rattle.hosts.specs.Traces.{nothing, next}
 use Rattle.hosts.proofs.Continuing.{ran_after, ran_none}
@@ -109,6 +111,7 @@ module _ (p : Plan) where
   settles es (Ok end) c =
       let all = c.split ∙ ap (λ r. told_by es ⊕ r) c.ends.told ∙ told_nothing (told_by es) in
       record {
+        settles = λ done. subst (λ (t : Told). SettlesPlan p t.text t.stored) all (settled_plan p (c.ends.complete.0 done) c.ends.claim);
         text = sym (ap (λ l. l.text) all);
         stored = sym (ap (λ l. l.stored) all);
         ending = c.ends.ending;

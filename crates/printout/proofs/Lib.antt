@@ -2,4 +2,6 @@ pub mod FileByFile
 pub mod FileOfPairs
 pub mod InMemory
 pub mod Offers
+pub mod Sorting
+pub mod Settling
 pub mod Telling

@@ -4,6 +4,7 @@ use Rattle.hosts.specs.Events.{Event, Call, Reading, Fits, printed, stored, file
 use Rattle.hosts.specs.Works.{Worked, IsFront}
 use Rattle.printout.specs.PairBytes.{offerings_in}
 use Rattle.printout.specs.Plans.{Plan, bytes_of, fault, printout, needed, sheet, draft, ClaimOfPlan}
+use Rattle.printout.specs.Settled.{SettlesPlan}
 use Rattle.printout.specs.Walks.{just_opened, walked, refusal_lines}
 use Rattle.motion.specs.Rows.{delivered}
 use Rattle.printout.specs.declared.endings.Ending.{Ending}
@@ -24,6 +25,8 @@ ReadsPlan p es = Fits same_file (bytes_of p) es
 -- ---- a run to its end, and a run that a call stops
 module _ (p : Plan) where
   pub record EndsWith (es : List (Event PlanFile)) (end : Ending) : Type 0 where
+    -- what is printed and stored settles all pairs but the refused ones
+    pub settles : end ≡ Complete → SettlesPlan p (printed es) (stored es)
     pub text : printed es ≡ (printout p).text
     pub stored : stored es ≡ (printout p).stored
     pub ending : end ≡ (printout p).ending

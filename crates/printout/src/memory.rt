@@ -1,8 +1,9 @@
 // A plan in memory.
-ghost use Rattle.std.specs.Prelude.{◌≡◌, ◌↔◌, ◌+◌, ◌-◌, ◌^◌, ◌≤◌, length, min, None};
+ghost use Rattle.std.specs.Prelude.{◌≡◌, ◌↔◌, ◌+◌, ◌-◌, ◌^◌, ◌≤◌, length, min, take, None};
 ghost use Rattle.hosts.specs.Pages.{onto_page, Filled};
 ghost use Rattle.printout.specs.Memory.{plan, left_in};
 ghost use Rattle.printout.specs.Plans.{fault, printout, ClaimOfPlan, PrintsAlike};
+ghost use Rattle.printout.specs.Settled.{SettlesPlan, SettlesPlanOnto};
 ghost use Rattle.printout.specs.declared.endings.Ending.TheVariants.{Complete};
 
 use crate::endings::Ending;
@@ -73,6 +74,9 @@ pub fn inspect_bytes(
         (result.ending ≡ Complete) ↔ (fault p ≡ None) }
     ensures claim { let p = plan sheet.now step.now pairs.now in
         ClaimOfPlan p }
+    ensures settles { let p = plan sheet.now step.now pairs.now in
+        result.ending ≡ Complete → result.printed_len ≤ length page.new
+        → SettlesPlanOnto p (take result.printed_len page.new) refused.old refused.new }
     ensures alike { let p = plan sheet.now step.now pairs.now in
         PrintsAlike p }
 {
@@ -92,7 +96,7 @@ pub fn inspect_bytes(
 }
 
 /// Inspects a plan that is still to be read.
-#[tactic(auto, using(crate::proofs::InMemory::ended, crate::proofs::InMemory::completed, crate::proofs::InMemory::same_page, crate::proofs::InMemory::same_refused))]
+#[tactic(auto, using(crate::proofs::InMemory::ended, crate::proofs::InMemory::completed, crate::proofs::InMemory::settled, crate::proofs::InMemory::same_page, crate::proofs::InMemory::same_refused))]
 fn inspect_in(
     tables: &mut Tables,
     memory: &mut Memory<'_, '_, '_, '_, PlanBytes<'_, '_, '_>>,
@@ -107,6 +111,8 @@ fn inspect_in(
         (result ≡ Complete) ↔ (fault p ≡ None) }
     ensures claim { let p = left_in memory.old.files in
         ClaimOfPlan p }
+    ensures settles { let p = left_in memory.old.files in
+        result ≡ Complete → SettlesPlan p (printout p).text (printout p).stored }
     ensures same_page { memory.new.printed.ghost_name ≡ memory.old.printed.ghost_name }
     ensures same_refused { memory.new.stored.ghost_name ≡ memory.old.stored.ghost_name }
 {

@@ -43,6 +43,19 @@ lines_are text ls p = ap lines_of (sym (append-nil text)) ∙ p [] ∙ append-ni
 pub no_feed-append : (a b : List ℕ) → no_feed a ≡ true → no_feed b ≡ true → no_feed (a ++ b) ≡ true
 no_feed-append a b p q = list_all-append (λ b. not (eqb b 10)) a b ∙ ap₂ (λ x y. x && y) p q
 
+-- one part after the other
+abbrev pub joined : List (List ℕ) → List ℕ
+joined [] = []
+joined (p ∷ []) = p
+joined (p ∷ q ∷ ps) = p ++ joined (q ∷ ps)
+
+pub no_feed-joined : (ps : List (List ℕ)) → list_all no_feed ps ≡ true → no_feed (joined ps) ≡ true
+no_feed-joined [] h = refl
+no_feed-joined (p ∷ []) h = (and_parts (no_feed p) true h).0
+no_feed-joined (p ∷ q ∷ ps) h =
+    let both = and_parts (no_feed p) (list_all no_feed (q ∷ ps)) h in
+    no_feed-append p (joined (q ∷ ps)) both.0 (no_feed-joined (q ∷ ps) both.1)
+
 glyph : (d : ℕ) → not (eqb (digit_glyph false d) 10) ≡ true
 glyph d = grind arith
 

@@ -1,8 +1,18 @@
+use Rattle.std.proofs.Common.{rules}
 use Rattle.printout.specs.Memory.{plan}
-use Rattle.printout.specs.Plans.{fault, printed_by}
+use Rattle.printout.specs.Plans.{fault, printed_by, printout}
+use Rattle.printout.proofs.InMemory.{settled_onto}
 use Rattle.printout.proofs.memory.inspect_bytes.Goals as goal
 
 pub returns-clause-alike : goal.returns-clause-alike
 returns-clause-alike c =
     let p = plan c.args.sheet.now c.args.step.now c.args.pairs.now in
     λ other same. λ i. printed_by (λ t. same t i) p (fault p)
+
+pub returns-clause-settles : goal.returns-clause-settles
+returns-clause-settles c =
+    λ done room.
+    let p = plan c.args.sheet.now c.args.step.now c.args.pairs.now in
+    let text = c.inspect_in-ending.ensures.page _ c.new-page.ensures in
+    let stored = c.inspect_in-ending.ensures.refused _ c.new-refused.ensures in
+    settled_onto p (printout p).text (printout p).stored c.args.page.now _ c.args.refused.now _ _ (c.inspect_in-ending.ensures.settles done) (search (rules, text.len)) (search (rules, text.bytes)) room (search rules) (search (rules, stored.bytes))

@@ -1,5 +1,5 @@
--- A walk that refuses no pair accepts each.
-use Rattle.std.proofs.Common.{◌≡◌, ◌+◌, ◌≤◌, Bool, Some, None, Option, List, [], ◌∷◌, ◌++◌, length, All, Any, Contains, refl, subst, sym, ap, ◌∙◌, arith, append_assoc, append-nil, length-append}
+-- A walk sorts each pair to the refused or to the accepted.
+use Rattle.std.proofs.Common.{◌≡◌, ◌+◌, ◌≤◌, Bool, Some, None, Option, List, [], ◌∷◌, ◌++◌, length, ◌⊎◌, All, Any, Contains, refl, subst, sym, ap, ◌∙◌, inl, inr, arith, append_assoc, append-nil, length-append}
 use Rattle.std.proofs.lemmas.List.Elements.{All-nil, All-cons, Contains-append_left, Contains-append_right}
 use Rattle.motion.specs.declared.shapes.Shape.{Shape}
 use Rattle.sheet.specs.declared.notices.Notice.{Notice}
@@ -18,15 +18,24 @@ record GoesOn (w v : Walk) : Type 0 where
 abbrev pub HasAccepted : Walk → Offering → Type 0
 HasAccepted w o = Any (λ a. a.what ≡ o) w.accepted
 
-none_left : {A : Type 0} (xs ys : List A) → xs ++ ys ≡ [] → xs ≡ []
-none_left [] ys e = refl
-none_left (x ∷ xs) ys e = absurd (omega (arith, ap length e))
+abbrev pub HasRefused : Walk → Offering → Type 0
+HasRefused w o = Any (λ r. r.pair ≡ o) w.refused
 
-still : (w v : Walk) → GoesOn w v → (o : Offering) → HasAccepted w o → HasAccepted v o
-still w v g o (k, a, here, is, same) =
-    let c : Contains (w.accepted ++ g.accepted_rest) a = Contains-append_left w.accepted g.accepted_rest a (k, here, is) in
-    let d : Contains v.accepted a = subst (λ (l : List Accepted). Contains l a) (sym g.accepted) c in
-    (d.0, a, d.1, d.2, same)
+abbrev pub IsSorted : Walk → Offering → Type 0
+IsSorted w o = HasAccepted w o ⊎ HasRefused w o
+
+-- what is in a list is in a longer one
+still : {X : Type 0} (P : X → Type 0) (xs ys zs : List X) → zs ≡ xs ++ ys → Any P xs → Any P zs
+still P xs ys zs e (k, x, here, is, holds) =
+    let c = subst (λ (l : List _). Contains l x) (sym e) (Contains-append_left xs ys x (k, here, is)) in
+    (c.0, x, c.1, c.2, holds)
+
+at_end : {X : Type 0} (P : X → Type 0) (xs : List X) (x : X) → P x → Any P (xs ++ (x ∷ []))
+at_end P xs x holds = let c = Contains-append_right xs (x ∷ []) x (0, omega arith, refl) in (c.0, x, c.1, c.2, holds)
+
+stays : (w v : Walk) → GoesOn w v → (o : Offering) → IsSorted w o → IsSorted v o
+stays w v g o (inl a) = inl (still (λ a. a.what ≡ o) w.accepted g.accepted_rest v.accepted g.accepted a)
+stays w v g o (inr r) = inr (still (λ r. r.pair ≡ o) w.refused g.refused_rest v.refused g.refused r)
 
 module _ (set : Shape → Bool) (s : Sheet) where
   goes_on_one : (w : Walk) (o : Offering) (n : Option Notice) → GoesOn w (sorted_in set s w o n)
@@ -45,21 +54,16 @@ module _ (set : Shape → Bool) (s : Sheet) where
         accepted = b.accepted ∙ ap (λ rs. rs ++ b.accepted_rest) a.accepted ∙ append_assoc w.accepted a.accepted_rest b.accepted_rest;
       }
 
-  accepted_one : (w : Walk) (o : Offering) (n : Option Notice) → (sorted_in set s w o n).refused ≡ [] → HasAccepted (sorted_in set s w o n) o
-  accepted_one w o (Some n) e = absurd (omega (arith, ap length e, length-append w.refused (record { pair = o; why = n } ∷ [])))
-  accepted_one w o None e =
-      let a : Accepted = record { what = o; depth = w.found.core.depth } in
-      let c : Contains (w.accepted ++ (a ∷ [])) a = Contains-append_right w.accepted (a ∷ []) a (0, omega arith, refl) in
-      (c.0, a, c.1, c.2, refl)
+  sorted_one : (w : Walk) (o : Offering) (n : Option Notice) → IsSorted (sorted_in set s w o n) o
+  sorted_one w o (Some n) = inr (at_end (λ r. r.pair ≡ o) w.refused (record { pair = o; why = n }) refl)
+  sorted_one w o None = inl (at_end (λ a. a.what ≡ o) w.accepted (record { what = o; depth = w.found.core.depth }) refl)
 
-  pub all_accepted : (w : Walk) (os : List Offering) → (walked set s w os).refused ≡ [] → All (HasAccepted (walked set s w os)) os
-  all_accepted w [] e = All-nil (HasAccepted w)
-  all_accepted w (o ∷ os) e =
+  pub all_sorted : (w : Walk) (os : List Offering) → All (IsSorted (walked set s w os)) os
+  all_sorted w [] = All-nil (IsSorted w)
+  all_sorted w (o ∷ os) =
       let after = offered set s w o in
       let v = walked set s after os in
-      let g = goes_on after os in
-      let none : after.refused ≡ [] = none_left after.refused g.refused_rest (sym g.refused ∙ e) in
-      All-cons (HasAccepted v) o os (still after v g o (accepted_one w o (refusal set s o w.found) none)) (all_accepted after os e)
+      All-cons (IsSorted v) o os (stays after v (goes_on after os) o (sorted_one w o (refusal set s o w.found))) (all_sorted after os)
 
   -- no more are refused than are offered
   one_more_at_most : (w : Walk) (o : Offering) (n : Option Notice) → length (sorted_in set s w o n).refused ≤ length w.refused + 1
