@@ -7,3 +7,4 @@ pub mod Marking
 pub mod Completing
 pub mod FarApart
 pub mod Covering
+pub mod EachTwo

@@ -5,7 +5,7 @@ use Rattle.std.proofs.Math.ListN.{get_or-map}
 use Rattle.std.proofs.lemmas.Bool.{and_from, or_parts, ltb-false}
 use Rattle.std.proofs.lemmas.List.Sums.{sum_by-cons, sum_by-append}
 use Rattle.std.proofs.lemmas.List.{take_all, length-map}
-use Rattle.std.proofs.lemmas.List.Elements.{All-weaker, All-contains, All-head, All-tail, Contains-append_right}
+use Rattle.std.proofs.lemmas.List.Elements.{All-weaker, All-contains, All-nil, All-cons, All-append, All-head, All-tail, Contains-append_right}
 use Rattle.sheet.specs.Checks.{check}
 use Rattle.sheet.specs.Lines.{lines_of}
 use Rattle.sheet.specs.Notices.{name_of, fault_line}
@@ -27,7 +27,7 @@ use Rattle.inspection.specs.Tests.{vf_naming, ee_naming}
 use Rattle.report.specs.Lines.{vf_line, ee_line}
 use Rattle.report.specs.Reports.{View, entry_limit, numbered}
 use Rattle.report.specs.Settled.{IsTold, Settled, IsAmong, is_fault}
-use Rattle.report.proofs.Told.{IsPlain, report_lines, report_are, report_plain, vf_told, ee_told, settled_tests}
+use Rattle.report.proofs.Told.{IsInner, IsPlain, report_lines, report_are, report_plain, vf_told, ee_told, settled_tests}
 use Rattle.report.proofs.WholeLines.{no_feed, AreLines, are_more, are_each, lines_are, no_feed-joined, no_feed-decimal}
 use Rattle.printout.specs.PairBytes.{offerings_in}
 use Rattle.printout.specs.Plans.{Plan, draft, fault, walk, printout, printed_by, report_of, sheet, ClaimOfPlan}
@@ -54,6 +54,9 @@ no_feed-fault n =
     no_feed-joined
     (codes "fault " ∷ decimal n.number ∷ codes " " ∷ name_of n.layer ∷ codes " " ∷ decimal n.first ∷ codes " " ∷ decimal n.second ∷ [])
     (and_from _ _ (no_feed-decimal n.number) (and_from _ _ (no_feed-name n.layer) (and_from _ _ (no_feed-decimal n.first) (and_from _ _ (no_feed-decimal n.second) refl))))
+
+pub inner_fault : (n : Notice) → IsInner (fault_line n)
+inner_fault n = record { covered = refl; refused = refl }
 
 pub tells_fault : (n : Notice) → is_fault (fault_line n) ≡ true
 tells_fault n = refl
@@ -82,7 +85,7 @@ module _ (set : Shape → Bool) (s : Sheet) where
 abbrev one_if : Bool → ℕ
 one_if b = if b then 1 else 0
 
-counted : (l : List ℕ) (ls : List (List ℕ)) → count_by is_fault (l ∷ ls) ≡ one_if (is_fault l) + count_by is_fault ls
+pub counted : (l : List ℕ) (ls : List (List ℕ)) → count_by is_fault (l ∷ ls) ≡ one_if (is_fault l) + count_by is_fault ls
 counted l ls = sum_by-cons (λ x. one_if (is_fault x)) l ls
 
 count_each : {X : Type 0} (line : X → List ℕ) → ((x : X) → is_fault (line x) ≡ true) → (xs : List X) → count_by is_fault (map line xs) ≡ length xs
@@ -133,6 +136,16 @@ module _ (p : Plan) (none : fault p ≡ None) where
       subst (λ t. AreLines t plan_lines) (sym (ap (λ n. (printed_by delivered p n).text) none))
       (are_more (refusal_lines w) (report_of p w.found) why_lines (report_lines view w.found.vf w.found.ee)
       (are_each (λ (r : Refusal). fault_line r.why) (λ r. no_feed-fault r.why) w.refused) (report_are view w.found.vf w.found.ee))
+
+  pub plan_inner : All IsInner plan_lines
+  unfolding view plan_lines
+  plan_inner =
+      All-append IsInner why_lines (report_lines view w.found.vf w.found.ee) (each w.refused)
+      (All-weaker IsPlain IsInner (λ l h. h.inner) (report_lines view w.found.vf w.found.ee) (report_plain view w.found.vf w.found.ee))
+    where
+      each : (rs : List Refusal) → All IsInner (map (λ r. fault_line r.why) rs)
+      each [] = All-nil IsInner
+      each (r ∷ rs) = All-cons IsInner (fault_line r.why) (map (λ r. fault_line r.why) rs) (inner_fault r.why) (each rs)
 
   pub plan_faults : count_by is_fault plan_lines ≡ length w.refused
   unfolding view plan_lines

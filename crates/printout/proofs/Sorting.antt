@@ -1,6 +1,6 @@
 -- A walk sorts each pair to the refused or to the accepted.
 use Rattle.std.proofs.Common.{◌≡◌, ◌+◌, ◌≤◌, Bool, Some, None, Option, List, [], ◌∷◌, ◌++◌, length, ◌⊎◌, All, Any, Contains, refl, subst, sym, ap, ◌∙◌, inl, inr, arith, append_assoc, append-nil, length-append}
-use Rattle.std.proofs.lemmas.List.Elements.{All-nil, All-cons, Contains-append_left, Contains-append_right}
+use Rattle.std.proofs.lemmas.List.Elements.{All-weaker, All-nil, All-cons, Contains-append_left, Contains-append_right}
 use Rattle.motion.specs.declared.shapes.Shape.{Shape}
 use Rattle.sheet.specs.declared.notices.Notice.{Notice}
 use Rattle.inspection.specs.declared.offerings.Offering.{Offering}
@@ -64,6 +64,15 @@ module _ (set : Shape → Bool) (s : Sheet) where
       let after = offered set s w o in
       let v = walked set s after os in
       All-cons (IsSorted v) o os (stays after v (goes_on after os) o (sorted_one w o (refusal set s o w.found))) (all_sorted after os)
+
+  pub all_accepted : (w : Walk) (os : List Offering) → (walked set s w os).refused ≡ [] → All (HasAccepted (walked set s w os)) os
+  all_accepted w os none =
+      let v = walked set s w os in
+      All-weaker (IsSorted v) (HasAccepted v) (λ o sorted. by v none o sorted) os (all_sorted w os)
+    where
+      by : (v : Walk) → v.refused ≡ [] → (o : Offering) → IsSorted v o → HasAccepted v o
+      by v none o (inl a) = a
+      by v none o (inr (k, r, here, is, same)) = absurd (omega (arith, here, ap length none))
 
   -- no more are refused than are offered
   one_more_at_most : (w : Walk) (o : Offering) (n : Option Notice) → length (sorted_in set s w o n).refused ≤ length w.refused + 1

@@ -1,12 +1,12 @@
 -- What is listed has its line in a report, and what such lines settle.
-use Rattle.std.proofs.Common.{◌≡◌, ◌⊎◌, ℕ, ◌<◌, Bool, true, false, ◌&&◌, eqb, List, [], ◌∷◌, ◌++◌, map, length, get_or, take, Option, Some, None, All, Contains, IsTrue, IsFalse, refl, sym, ap, ◌∙◌, subst, inl, inr, arith}
+use Rattle.std.proofs.Common.{◌≡◌, ◌⊎◌, ℕ, Bool, true, false, eqb, List, [], ◌∷◌, ◌++◌, map, get_or, Option, Some, None, All, Contains, IsTrue, IsFalse, refl, ap, ◌∙◌, inl, inr, arith}
 use Rattle.std.specs.Prelude.{codes, decimal, flat_map}
 use Rattle.std.specs.List.{list_all}
 use Rattle.std.proofs.Math.ListN.{get_or-map}
 use Rattle.std.proofs.lemmas.Bool.{and_from, and_parts}
 use Rattle.std.proofs.lemmas.Bool.Decides.{nat_tests}
 use Rattle.std.proofs.lemmas.List.{length-map}
-use Rattle.std.proofs.lemmas.List.Elements.{All-weaker, All-append, All-nil, All-cons, Contains-append_left, Contains-append_right}
+use Rattle.std.proofs.lemmas.List.Elements.{All-weaker, All-append, All-nil, All-cons, All-contains, All-contains_itself, Contains-append_left, Contains-append_right}
 use Rattle.std.proofs.lemmas.Map.Views.{Contains-from_any}
 use Rattle.motion.specs.Laws.{Apart}
 use Rattle.motion.specs.Depths.{window_at}
@@ -17,14 +17,15 @@ use Rattle.inspection.specs.declared.names.VfName.{VfName}
 use Rattle.inspection.specs.declared.names.EeName.{EeName}
 use Rattle.inspection.specs.declared.offerings.Offering.{Offering}
 use Rattle.inspection.specs.Lists.{has}
+use Rattle.inspection.proofs.NamingLaws.{NamingLaws, alike, vf_laws, ee_laws}
 use Rattle.inspection.specs.Names.{vf_same, ee_same}
+use Rattle.inspection.specs.Offerings.{SameOffering}
 use Rattle.inspection.specs.Sheets.{Sheet}
 use Rattle.inspection.specs.Tallies.{tally_in}
 use Rattle.inspection.specs.Tests.{Naming, vf_naming, ee_naming}
-use Rattle.sheet.specs.Lines.{lines_of}
 use Rattle.report.specs.Lines.{word_of, spaced, line, window_parts, vf_line, ee_line, count_line}
 use Rattle.report.specs.Reports.{View, entry_line, numbered, section, report_text}
-use Rattle.report.specs.Settled.{IsTold, TestsSettled, is_fault}
+use Rattle.report.specs.Settled.{IsTold, TestsSettled, Settled, is_fault}
 use Rattle.report.proofs.WholeLines.{no_feed, AreLines, are_one, are_more, are_each, no_feed-append, no_feed-decimal}
 
 -- ---- the lines of a report
@@ -62,15 +63,19 @@ no_feed-count l t =
 abbrev pub begins : ℕ → List ℕ → Bool
 begins b l = eqb (get_or l 0 0) b
 
--- a line of a report: it tells no fault, and is not the last of a run from two frames
-pub record IsPlain (l : List ℕ) : Type 0 where
-  pub fault : is_fault l ≡ false
+-- it is not the last line of a run from two frames
+pub record IsInner (l : List ℕ) : Type 0 where
   pub covered : begins 99 l ≡ false
   pub refused : begins 114 l ≡ false
 
+-- and it tells no fault
+pub record IsPlain (l : List ℕ) : Type 0 where
+  pub inner : IsInner l
+  pub fault : is_fault l ≡ false
+
 count_plain : (l : Kind) (t : Tally) → IsPlain (count_line l t)
-count_plain Vf t = record { fault = refl; covered = refl; refused = refl }
-count_plain Ee t = record { fault = refl; covered = refl; refused = refl }
+count_plain Vf t = record { inner = record { covered = refl; refused = refl }; fault = refl }
+count_plain Ee t = record { inner = record { covered = refl; refused = refl }; fault = refl }
 
 module _ {E : Type 0} (n : Naming E) (l : Kind) (v : View) (line_of : E → Option (ℕ × ℕ) → List ℕ) (whole : (e : E) (w : Option (ℕ × ℕ)) → no_feed (line_of e w) ≡ true) (inner : (e : E) (w : Option (ℕ × ℕ)) → IsPlain (line_of e w)) where
   abbrev lined : E → List ℕ
@@ -99,10 +104,10 @@ module _ {E : Type 0} (n : Naming E) (l : Kind) (v : View) (line_of : E → Opti
         (k, omega (arith, length-map (numbered es) lined), get_or-map lined (numbered es) k e ∙ ap lined is)
 
 vf_plain : (e : VfName) (w : Option (ℕ × ℕ)) → IsPlain (vf_line e w)
-vf_plain e w = record { fault = refl; covered = refl; refused = refl }
+vf_plain e w = record { inner = record { covered = refl; refused = refl }; fault = refl }
 
 ee_plain : (e : EeName) (w : Option (ℕ × ℕ)) → IsPlain (ee_line e w)
-ee_plain e w = record { fault = refl; covered = refl; refused = refl }
+ee_plain e w = record { inner = record { covered = refl; refused = refl }; fault = refl }
 
 vf_equal : (x y : VfName) → vf_same x y ≡ true → x ≡ y
 vf_equal x y h = grind (arith, nat_tests)
@@ -138,15 +143,19 @@ module _ (v : View) (vf : List VfName) (ee : List EeName) where
   -- what is listed has its line
   pub vf_told : (e : VfName) → has vf_same e (numbered vf) ≡ true → (w : Option (ℕ × ℕ)) × Contains report_lines (vf_line e w)
   unfolding report_lines
-  vf_told e h =
-      (window_at v.set v.core.depth (vf_naming.shape v.sheet e), Contains-append_left vf_lines ee_lines _
-      (in_section vf_naming Vf v vf_line no_feed-vf vf_plain vf (tally_in Vf v.core.tallies) e (Contains-from_any vf_equal e (numbered vf) h)))
+  vf_told e h = (
+    window_at v.set v.core.depth (vf_naming.shape v.sheet e),
+    Contains-append_left vf_lines ee_lines _
+        (in_section vf_naming Vf v vf_line no_feed-vf vf_plain vf (tally_in Vf v.core.tallies) e (Contains-from_any vf_equal e (numbered vf) h)),
+  )
 
   pub ee_told : (e : EeName) → has ee_same e (numbered ee) ≡ true → (w : Option (ℕ × ℕ)) × Contains report_lines (ee_line e w)
   unfolding report_lines
-  ee_told e h =
-      (window_at v.set v.core.depth (ee_naming.shape v.sheet e), Contains-append_right vf_lines ee_lines _
-      (in_section ee_naming Ee v ee_line no_feed-ee ee_plain ee (tally_in Ee v.core.tallies) e (Contains-from_any ee_equal e (numbered ee) h)))
+  ee_told e h = (
+    window_at v.set v.core.depth (ee_naming.shape v.sheet e),
+    Contains-append_right vf_lines ee_lines _
+        (in_section ee_naming Ee v ee_line no_feed-ee ee_plain ee (tally_in Ee v.core.tallies) e (Contains-from_any ee_equal e (numbered ee) h)),
+  )
 
 -- ---- what is not listed stays apart, and what is listed is told
 pub settled_tests : {E : Type 0} (n : Naming E) (line_of : E → Option (ℕ × ℕ) → List ℕ) (s : Sheet) (text : List ℕ) (es : List E) (o : Offering)
@@ -161,3 +170,28 @@ settled_tests {E} n line_of s text es o told apart =
     by e h true is b in_list = inl is
     by e h false is true in_list = inr (inl (told e in_list))
     by e h false is false in_list = inr (inr (h is in_list))
+
+-- two faces are settled in either order
+turned_tests : {E : Type 0} (n : Naming E) (each : ℕ) (line_of : E → Option (ℕ × ℕ) → List ℕ) (s : Sheet) (text : List ℕ) → NamingLaws n each s
+    → (o p : Offering) → SameOffering o p → TestsSettled n line_of s text p → TestsSettled n line_of s text o
+turned_tests {E} n each line_of s text laws o p same settled =
+    All-weaker (Contains (n.tests s o)) Here (λ e c. by e c (n.shared s e) refl) (n.tests s o) (All-contains_itself (n.tests s o))
+  where
+    Here : E → Type 0
+    Here e = IsTrue (n.shared s e) ⊎ (IsTold text (line_of e) ⊎ Apart (n.shape s e))
+
+    by : (e : E) → Contains (n.tests s o) e → (a : Bool) → n.shared s e ≡ a → Here e
+    by e c true is = inl is
+    by e c false is = All-contains Here (n.tests s p) e settled (alike n each s laws o p same e c is)
+
+pub settled_turned : (s : Sheet) (text : List ℕ) (o p : Offering) → SameOffering o p → Settled s text p → Settled s text o
+settled_turned s text o p same settled =
+    record {
+      vf = turned_tests vf_naming 6 vf_line s text (vf_laws s) o p same settled.vf;
+      ee = turned_tests ee_naming 9 ee_line s text (ee_laws s) o p same settled.ee;
+    }
+
+pub settled_apart : {E : Type 0} (n : Naming E) (line_of : E → Option (ℕ × ℕ) → List ℕ) (s : Sheet) (text : List ℕ) (o : Offering)
+    → All (λ e. Apart (n.shape s e)) (n.tests s o) → TestsSettled n line_of s text o
+settled_apart n line_of s text o apart =
+    All-weaker (λ e. Apart (n.shape s e)) (λ e. IsTrue (n.shared s e) ⊎ (IsTold text (line_of e) ⊎ Apart (n.shape s e))) (λ e a. inr (inr a)) (n.tests s o) apart

@@ -4,7 +4,7 @@ use Rattle.motion.specs.Rows.{delivered}
 use Rattle.printout.specs.PairBytes.{offerings_in}
 use Rattle.printout.specs.Plans.{Plan, draft, fault, printout, printout_by, sheet, walk}
 use Rattle.printout.specs.Walks.{just_opened}
-use Rattle.two_frames.proofs.Accepting.{refused_at_most}
+use Rattle.printout.proofs.Sorting.{refused_at_most}
 use Rattle.two_frames.proofs.FourBytes.{four_each}
 
 -- each offering takes four bytes

@@ -1,10 +1,9 @@
 -- A plan that has all near pairs and refuses none covers its whole sheet.
-use Rattle.std.proofs.Common.{◌≡◌, ℕ, Bool, true, false, cond, eqb, eqb-true, List, [], ◌∷◌, length, map, All, Any, None, refl, sym, ap, ◌∙◌, subst, inl, arith}
+use Rattle.std.proofs.Common.{◌≡◌, ℕ, Bool, true, false, cond, eqb, eqb-true, List, [], ◌∷◌, length, map, All, Any, None, refl, sym, ap, ◌∙◌, subst, arith}
 use Rattle.std.proofs.lemmas.List.{length-map, nil_from_length}
 use Rattle.std.proofs.lemmas.List.Elements.{All-weaker, All-nil, All-cons, All-head, All-tail}
 use Rattle.motion.specs.Rows.{delivered}
 use Rattle.inspection.specs.declared.offerings.Offering.{Offering}
-use Rattle.inspection.specs.declared.offerings.Offering.TheVariants.{Faces}
 use Rattle.inspection.specs.Offerings.{SameOffering}
 use Rattle.inspection.specs.Runs.{Accepted}
 use Rattle.near_faces.specs.declared.pairs.Pair.{Pair}
@@ -15,7 +14,8 @@ use Rattle.near_faces.proofs.Completing.{complete}
 use Rattle.printout.specs.PairBytes.{offerings_in}
 use Rattle.printout.specs.Plans.{Plan, draft, faces, fault, sheet_fault, step_fault, sheet, walk, ClaimOfPlan}
 use Rattle.printout.specs.Walks.{just_opened}
-use Rattle.two_frames.proofs.Accepting.{HasAccepted, all_accepted}
+use Rattle.printout.proofs.Settling.{same_itself}
+use Rattle.printout.proofs.Sorting.{HasAccepted, all_accepted}
 use Rattle.two_frames.specs.Accounts.{paired_plan, refused_count, ending_by, ClaimsOver}
 use Rattle.two_frames.specs.declared.endings.FramesEnding.{FramesEnding}
 use Rattle.two_frames.specs.declared.endings.FramesEnding.TheVariants.{Covered, Refused}
@@ -26,19 +26,16 @@ use Rattle.pairing.proofs.PairBytes.{read_back}
 use Rattle.printout.specs.Memory.{plan}
 
 -- what all of the offerings have, each pair has
-each_pair : (P : Offering → Type 0) (qs : List Pair) → All P (map offering_of qs) → All (λ q. P (offering_of q)) qs
+pub each_pair : (P : Offering → Type 0) (qs : List Pair) → All P (map offering_of qs) → All (λ q. P (offering_of q)) qs
 each_pair P [] all = All-nil (λ q. P (offering_of q))
 each_pair P (q ∷ qs) all =
     All-cons (λ q. P (offering_of q)) q qs (All-head P (offering_of q) (map offering_of qs) all) (each_pair P qs (All-tail P (offering_of q) (map offering_of qs) all))
 
-same_itself : (o : Offering) → SameOffering o o
-same_itself (Faces f g) = inl (refl, refl)
-
 module _ (p : Plan) (good : fault p ≡ None) (all_near : p.pairs ≡ pairs_bytes (near_pairs (sheet p))) where
-  abbrev near_ones : List Pair
+  abbrev pub near_ones : List Pair
   near_ones = near_pairs (sheet p)
 
-  offered : offerings_in p.pairs ≡ map offering_of near_ones
+  pub offered : offerings_in p.pairs ≡ map offering_of near_ones
   offered =
       let few = (is_sheet p (sheet_first p (sheet_fault p) (step_fault p) good)).face_count in
       ap offerings_in all_near ∙ read_back (swept_boxes (sheet p)) (omega (arith, few, length-map (faces p) (swept_box (sheet p)))) near_ones (complete (swept_boxes (sheet p))).only

@@ -1,5 +1,5 @@
 -- What comes of two frames: what `record`, `near` and `inspect` give, one after the other, and a last line.
-use Rattle.std.specs.Prelude.{◌≡◌, ℕ, if◌then◌else◌, ◌==◌, List, [], ◌++◌, length, codes, decimal, unwrap_or}
+use Rattle.std.specs.Prelude.{◌≡◌, ℕ, if◌then◌else◌, ◌==◌, List, [], ◌++◌, length, codes, unwrap_or}
 use Rattle.inspection.specs.Sheets.{Sheet, sheet_of}
 use Rattle.near_faces.specs.Covering.{FarApart, WholeSheetApart}
 use Rattle.frames.specs.Frames.{Frames, faces_of, step_between}
@@ -11,6 +11,7 @@ use Rattle.printout.specs.Memory.{plan}
 use Rattle.printout.specs.Plans.{Plan, printout, sheet, walk, ClaimOfPlan}
 use Rattle.printout.specs.declared.endings.Ending.{Ending}
 use Rattle.printout.specs.declared.endings.Ending.TheVariants as plan_ending
+use Rattle.two_frames.specs.Lines.{last_line}
 use Rattle.two_frames.specs.declared.endings.FramesEnding.{FramesEnding}
 use Rattle.two_frames.specs.declared.endings.FramesEnding.TheVariants as ending
 
@@ -26,10 +27,6 @@ record_between f = unwrap_or (outcome f).record_stored []
 abbrev pub refused_count : Plan → ℕ
 refused_count p = length (walk p).refused
 
-abbrev pub last_line : ℕ → List ℕ
-last_line n =
-    if n == 0 then codes "covered all pairs\n" else codes "refused " ++ (decimal n ++ codes " pairs\n")
-
 abbrev pub ending_by : ℕ → FramesEnding
 ending_by n = if n == 0 then ending.Covered else ending.Refused n
 
@@ -44,7 +41,7 @@ abbrev pub inspected : Plan → Account
 inspected p =
     let n = refused_count p in
     record {
-      text = (printout p).text ++ last_line n;
+      text = (printout p).text ++ (last_line n ++ codes "\n");
       refused = (printout p).stored;
       ending = ending_by n;
     }

@@ -1,13 +1,13 @@
 // The last line.
-ghost use Rattle.std.specs.Prelude.{◌≡◌};
-ghost use Rattle.two_frames.specs.Accounts.{last_line};
+ghost use Rattle.std.specs.Prelude.{◌≡◌, ◌++◌, codes};
+ghost use Rattle.two_frames.specs.Lines.{last_line};
 
 use arrayvec::ArrayString;
 use itoa::Buffer;
 
 /// The line that tells whether all pairs were inspected, or how many were refused.
 pub(crate) fn last_line(refused: usize) -> ArrayString<40>
-    ensures { result.bytes ≡ last_line refused }
+    ensures { result.bytes ≡ last_line refused ++ codes "\n" }
 {
     let mut line = ArrayString::new();
     if refused == 0 {

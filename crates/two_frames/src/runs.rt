@@ -1,12 +1,14 @@
 // A run from two frames.
-ghost use Rattle.std.specs.Prelude.{◌≡◌, ◌+◌, ◌-◌, ◌*◌, ◌^◌, ◌≤◌, length, min, None};
+ghost use Rattle.std.specs.Prelude.{◌≡◌, ◌+◌, ◌-◌, ◌*◌, ◌^◌, ◌≤◌, ◌++◌, codes, length, min, take, None};
 ghost use Rattle.hosts.specs.Pages.{onto_page};
 ghost use Rattle.step.specs.Limit.{record_limit};
 ghost use Rattle.pairing.specs.Pairings.{pair_room};
 ghost use Rattle.frames.specs.Frames.{frames};
 ghost use Rattle.printout.specs.Memory.{plan};
 ghost use Rattle.printout.specs.Plans.{fault, ClaimOfPlan};
-ghost use Rattle.two_frames.specs.Accounts.{account, searched, inspected, last_line, ending_by, paired_plan, Claims, ClaimsOfPlan};
+ghost use Rattle.two_frames.specs.Lines.{last_line};
+ghost use Rattle.two_frames.specs.Settled.{SettlesFramesOnto};
+ghost use Rattle.two_frames.specs.Accounts.{account, searched, inspected, ending_by, paired_plan, sheet_between, Claims, ClaimsOfPlan};
 
 use crate::endings::FramesEnding;
 use crate::lines::last_line;
@@ -29,8 +31,10 @@ pub struct Accounted {
 /// room, and answers how long what is printed is.
 ///
 /// Where no pair is refused, the claim is of the whole sheet: of every two different faces, near or
-/// far, what shares no point and is not listed stays apart for the whole step. The lent tables are
-/// worked in, all 12 million bytes; what they hold does not matter.
+/// far, what shares no point and is not listed stays apart for the whole step. And so say the lines
+/// that are printed, where they have room (`settles`): after `covered all pairs` each test of every
+/// two faces has a point in common, or its line, or stays apart. The lent tables are worked in, all
+/// 12 million bytes; what they hold does not matter.
 pub fn inspect_frames(
     tables: &mut Tables,
     near: &mut [Pair; PAIR_LIMIT],
@@ -48,6 +52,9 @@ pub fn inspect_frames(
     ensures printed_len { result.printed_len
         ≡ min (length (account (frames start.now end.now)).text) (2 ^ 64 - 1) }
     ensures claims { Claims (frames start.now end.now) result.ending }
+    ensures settles { let text = take result.printed_len page.new in
+        result.printed_len ≤ length page.new
+        → SettlesFramesOnto (sheet_between (frames start.now end.now)) text refused.old refused.new }
 {
     let recorded = record_frames(&mut tables.frames, start, end, &mut tables.step, page);
     let line_len = recorded.line_len;
@@ -144,8 +151,8 @@ fn inspect_pairs(
 /// Tells how many pairs are refused, or that none is.
 fn tell_refused(refused: usize, page: &mut [u8]) -> Accounted
     ensures ending { result.ending ≡ ending_by refused }
-    ensures page { page.new ≡ onto_page (last_line refused) page.old }
-    ensures printed_len { result.printed_len ≡ length (last_line refused) }
+    ensures page { page.new ≡ onto_page (last_line refused ++ codes "\n") page.old }
+    ensures printed_len { result.printed_len ≡ length (last_line refused ++ codes "\n") }
 {
     let line = last_line(refused);
     copy_front(line.as_str().as_bytes(), page);

@@ -8,6 +8,7 @@ use Rattle.inspection.specs.Sheets.{Sheet}
 use Rattle.printout.specs.Plans.{sheet}
 use Rattle.two_frames.proofs.Behind.{written_behind, len_behind, front_back}
 use Rattle.two_frames.proofs.Between.{same_sheet, record_fits}
+use Rattle.two_frames.proofs.Settling.{settled_onto, line_onto}
 use Rattle.two_frames.proofs.runs.inspect_frames.Goals as goal
 
 -- the record that was put into a table with room for it is read from its front
@@ -78,3 +79,18 @@ returns-in-Recorded-clause-refused c =
     let all = searched f.start (record_between f) in
     c.inspect_sheet-rest.ensures.refused ∙ ap (λ (bs : List ℕ). onto_page (searched f.start bs).refused c.args.refused.now) b
     ∙ sym (ap (λ (x : Recording). onto_page (after_recording line x all).refused c.args.refused.now) e)
+
+pub returns-in-Recorded-clause-settles : goal.returns-in-Recorded-clause-settles
+returns-in-Recorded-clause-settles c =
+    settled_onto (frames c.args.start.now c.args.end.now) c.args.page.now _ c.args.refused.now _ _ _ (returns-in-Recorded-clause-ending c) (returns-in-Recorded-clause-claims c) (returns-in-Recorded-clause-printed_len c) (returns-in-Recorded-clause-page c)
+    (returns-in-Recorded-clause-refused c) (search rules)
+
+pub returns-in-Faulty-clause-settles : goal.returns-in-Faulty-clause-settles
+returns-in-Faulty-clause-settles c =
+    let r = c.record_frames-recorded.ensures in
+    line_onto (frames c.args.start.now c.args.end.now) c.args.page.now _ c.args.refused.now _ r.line_len r.line (search rules)
+
+pub returns-in-Different-clause-settles : goal.returns-in-Different-clause-settles
+returns-in-Different-clause-settles c =
+    let r = c.record_frames-recorded.ensures in
+    line_onto (frames c.args.start.now c.args.end.now) c.args.page.now _ c.args.refused.now _ r.line_len r.line (search rules)
