@@ -1,8 +1,9 @@
 // A plan's three files.
-ghost use Rattle.std.specs.Prelude.{◌≡◌, ◌-◌, ◌^◌, length, min};
+ghost use Rattle.std.specs.Prelude.{◌≡◌, ◌-◌, ◌^◌, ◌≤◌, length, min, take};
 ghost use Rattle.hosts.specs.Pages.{onto_page};
 ghost use Rattle.printout.specs.Memory.{plan};
 ghost use Rattle.printout.specs.Plans.{printout, ClaimOfPlan};
+ghost use Rattle.printout.specs.Settled.{SettlesPlanOnto};
 ghost use Rattle.page.specs.Codes.{code_of_plan};
 
 use printout::{Ending, Tables, inspect_bytes};
@@ -38,6 +39,9 @@ pub extern "C" fn page_inspect(
     ensures refused_len { let p = plan sheet.now step.now pairs.now in
         result.refused_len ≡ min (length (printout p).stored) (2 ^ 64 - 1) }
     ensures claim { ClaimOfPlan (plan sheet.now step.now pairs.now) }
+    ensures settles { let p = plan sheet.now step.now pairs.now in
+        result.code ≡ 0 → result.text_len ≤ length text.new
+        → SettlesPlanOnto p (take result.text_len text.new) refused.old refused.new }
 {
     let mut tables = Tables::new();
     let inspected = inspect_bytes(&mut tables, sheet, step, pairs, text, refused);

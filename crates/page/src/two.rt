@@ -1,8 +1,9 @@
 // The whole run from two frames.
-ghost use Rattle.std.specs.Prelude.{◌≡◌, ◌-◌, ◌^◌, length, min};
+ghost use Rattle.std.specs.Prelude.{◌≡◌, ◌-◌, ◌^◌, ◌≤◌, length, min, take};
 ghost use Rattle.hosts.specs.Pages.{onto_page};
 ghost use Rattle.frames.specs.Frames.{frames};
-ghost use Rattle.two_frames.specs.Accounts.{account, Claims};
+ghost use Rattle.two_frames.specs.Accounts.{account, sheet_between, Claims};
+ghost use Rattle.two_frames.specs.Settled.{SettlesFramesOnto};
 ghost use Rattle.page.specs.Codes.{code_of_frames, refused_in};
 
 use crate::room::Room;
@@ -24,7 +25,8 @@ pub struct Accounted {
 /// Puts what is printed, and the pairs that are refused, into the front of these bytes, as far as
 /// they have room.
 ///
-/// Where no pair is refused, the claim is of the whole sheet.
+/// Where no pair is refused, the claim is of the whole sheet; and so say the lines that are printed,
+/// where they have room (`settles`).
 #[unsafe(no_mangle)]
 pub extern "C" fn page_frames(
     room: &mut Room,
@@ -44,6 +46,9 @@ pub extern "C" fn page_frames(
     ensures text_len { let a = account (frames start.now end.now) in
         result.text_len ≡ min (length a.text) (2 ^ 64 - 1) }
     ensures claims { let f = frames start.now end.now in Claims f (account f).ending }
+    ensures settles { let printed = take result.text_len text.new in
+        result.text_len ≤ length text.new
+        → SettlesFramesOnto (sheet_between (frames start.now end.now)) printed refused.old refused.new }
 {
     let mut tables = Tables::new();
     let Room {
