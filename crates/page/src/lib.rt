@@ -8,3 +8,4 @@ mod room;
 mod rows;
 mod steps;
 mod two;
+mod words;

@@ -1,0 +1,14 @@
+//! What faults and refusals say in words: the one home of these sentences, for the programs and for
+//! the page.
+#![tactic(auto)]
+
+mod advice;
+mod faults;
+mod fields;
+mod records;
+mod refusals;
+mod texts;
+
+pub use faults::fault_words;
+pub use refusals::refused_words;
+pub use texts::WORDS_ROOM;
