@@ -82,7 +82,7 @@ module _ {S E : Type 0} (does : S → Event FrameFile → S → Type 0) (fails :
 
 -- a fault is told
 abbrev faulty : FrameFile → SheetFault → Outcome
-faulty file fault = record { record_stored = None; line = fault_line (notice_of_sheet fault); answer = Faulty file }
+faulty file fault = record { record_stored = None; line = fault_line (notice_of_sheet fault); answer = Faulty file (notice_of_sheet fault) }
 
 module _ {S E : Type 0} (does : S → Event FrameFile → S → Type 0) (fails : S → Call FrameFile → E → S → Type 0) where
   says : (file : FrameFile) {s t : S} {ps : List Point} {fs : List Face} {read : Result Draft SheetFault} (r : FrameRead does file s ps fs read t)
@@ -100,7 +100,7 @@ module _ {S E : Type 0} (does : S → Event FrameFile → S → Type 0) (fails :
     one_went = next (Read Start (text_limit + 1) first.came) nothing first.did
 
     pub first_faulty : (u : S) (fault : SheetFault) (r : Result Recording E) → read ≡ Err fault
-        → Writes does fails (Printed (with_line_feed (fault_line (notice_of_sheet fault))) ∷ []) (Faulty Start) t r u → Records does fails s r u
+        → Writes does fails (Printed (with_line_feed (fault_line (notice_of_sheet fault))) ∷ []) (Faulty Start (notice_of_sheet fault)) t r u → Records does fails s r u
     first_faulty u fault r is =
         ends_so does fails s t u one refl one_went r (faulty Start fault)
         (λ f h. let bad = says Start first (Err fault) is f.start (h Start) in (rw bad refl, rw bad refl))
@@ -119,7 +119,7 @@ module _ {S E : Type 0} (does : S → Event FrameFile → S → Type 0) (fails :
         two_went = next (Read End (text_limit + 1) second.came) one_went second.did
 
         pub second_faulty : (fault : SheetFault) (r : Result Recording E) → read_too ≡ Err fault
-            → Writes does fails (Printed (with_line_feed (fault_line (notice_of_sheet fault))) ∷ []) (Faulty End) u r v → Records does fails s r v
+            → Writes does fails (Printed (with_line_feed (fault_line (notice_of_sheet fault))) ∷ []) (Faulty End (notice_of_sheet fault)) u r v → Records does fails s r v
         second_faulty fault r is =
             ends_so does fails s u v two refl two_went r (faulty End fault)
             (λ f h.

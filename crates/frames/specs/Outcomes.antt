@@ -26,12 +26,12 @@ pub record Outcome : Type 0 where
 abbrev pub unless_faulty : FrameFile → Option Notice → Outcome → Outcome
 unless_faulty file None o = o
 unless_faulty file (Some n) o =
-    record { record_stored = None; line = fault_line n; answer = Faulty file }
+    record { record_stored = None; line = fault_line n; answer = Faulty file n }
 
 abbrev pub unless_different : Option Difference → Outcome → Outcome
 unless_different None o = o
 unless_different (Some d) o =
-    record { record_stored = None; line = difference_line d; answer = Different }
+    record { record_stored = None; line = difference_line d; answer = Different d }
 
 abbrev pub recorded : List Point → Outcome
 recorded ps =

@@ -1,5 +1,8 @@
 // The two files, and what comes of them.
 
+use crate::comparing::Difference;
+use sheet::Notice;
+
 /// The frames at the start and at the end of a step.
 #[derive(Clone, Copy, Debug, PartialEq, Eq)]
 pub enum FrameFile {
@@ -12,8 +15,8 @@ pub enum FrameFile {
 pub enum Recording {
     /// The record of the step between them is stored.
     Recorded,
-    /// A frame has a fault.
-    Faulty(FrameFile),
-    /// They are not frames of one sheet.
-    Different,
+    /// A frame has this fault.
+    Faulty(FrameFile, Notice),
+    /// They are not frames of one sheet: they differ so.
+    Different(Difference),
 }

@@ -76,7 +76,7 @@ fn record_between<H: Host>(
     if let Some(difference) = compare_frames(start, faces, end, end_faces) {
         return tell(
             difference_line(difference).as_str(),
-            Recording::Different,
+            Recording::Different(difference),
             host,
         );
     }

@@ -44,11 +44,12 @@ pub(crate) fn tell_fault<H: Host>(
     host: &mut H,
 ) -> Result<Recording, H::Error>
     ensures { let text = with_line_feed (fault_line (notice_of_sheet fault)) in
-        Writes H.does H.fails (Printed text ∷ []) (Faulty file) host.old result host.new }
+        Writes H.does H.fails (Printed text ∷ []) (Faulty file (notice_of_sheet fault)) host.old result host.new }
 {
+    let notice = fault.notice();
     tell(
-        fault.notice().line().as_str(),
-        Recording::Faulty(file),
+        notice.line().as_str(),
+        Recording::Faulty(file, notice),
         host,
     )
 }

@@ -1,6 +1,7 @@
 // What comes of two texts, where all calls go well.
 use crate::failing::{Failure, TestHost};
-use frames::{FrameFile, Recording, Tables, record_step};
+use frames::{Difference, FrameFile, Recording, Tables, record_step};
+use sheet::{Layer, Notice};
 use std::alloc::Global;
 use std::test::Fail;
 
@@ -90,7 +91,7 @@ fn frames_differ_in_the_points_meant(rt: HostRuntime) -> Result<(), Fail> {
         b"SEp",
         b"",
         b"the frames differ in face 0\n",
-        Recording::Different,
+        Recording::Different(Difference::Face(0)),
     )
 }
 
@@ -103,7 +104,7 @@ fn a_faulty_first_frame_needs_no_second(rt: HostRuntime) -> Result<(), Fail> {
         b"Sp",
         b"",
         b"fault 1 field 1 3\n",
-        Recording::Faulty(FrameFile::Start),
+        Recording::Faulty(FrameFile::Start, Notice::new(1, Layer::Field, 1, 3)),
     )
 }
 
@@ -116,7 +117,7 @@ fn a_faulty_second_frame_is_told(rt: HostRuntime) -> Result<(), Fail> {
         b"SEp",
         b"",
         b"fault 5 line 3 2\n",
-        Recording::Faulty(FrameFile::End),
+        Recording::Faulty(FrameFile::End, Notice::new(5, Layer::Line, 3, 2)),
     )
 }
 
@@ -125,21 +126,24 @@ fn differences_are_told(rt: HostRuntime) -> Result<(), Fail> {
     let corners = b"v 0 0 0\nv 4 0 0\nv 0 4 0\n";
     let face = b"v 0 0 0\nv 4 0 0\nv 0 4 0\nf 1 2 3\n";
     let turned = b"v 0 0 0\nv 4 0 0\nv 0 4 0\nf 1 3 2\n";
-    for (start, end, line) in [
+    for (start, end, line, difference) in [
         (
             SHEET,
             face.as_slice(),
             b"the frames have 6 and 3 points\n".as_slice(),
+            Difference::Points(6, 3),
         ),
         (
             corners.as_slice(),
             face.as_slice(),
             b"the frames have 0 and 1 faces\n".as_slice(),
+            Difference::Faces(0, 1),
         ),
         (
             face.as_slice(),
             turned.as_slice(),
             b"the frames differ in face 0\n".as_slice(),
+            Difference::Face(0),
         ),
     ] {
         ends(
@@ -149,7 +153,7 @@ fn differences_are_told(rt: HostRuntime) -> Result<(), Fail> {
             b"SEp",
             b"",
             line,
-            Recording::Different,
+            Recording::Different(difference),
         )?;
     }
     Ok(())
@@ -179,6 +183,6 @@ fn a_text_with_one_byte_more_is_too_long(rt: HostRuntime) -> Result<(), Fail> {
         b"Sp",
         b"",
         b"fault 6 sheet 0 0\n",
-        Recording::Faulty(FrameFile::Start),
+        Recording::Faulty(FrameFile::Start, Notice::new(6, Layer::Sheet, 0, 0)),
     )
 }

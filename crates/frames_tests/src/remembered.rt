@@ -1,5 +1,6 @@
 // Two frames in memory.
 use frames::{FrameFile, Recording, Tables, record_frames};
+use sheet::{Layer, Notice};
 
 #[test]
 fn the_record_and_the_line_stand_in_front(rt: HostRuntime) {
@@ -29,7 +30,8 @@ fn a_fault_stands_as_far_as_there_is_room(rt: HostRuntime) {
     let mut bytes = [7u8; 2];
     let mut line = [7u8; 7];
     let recorded = record_frames(&mut tables, b"", b"x", &mut bytes, &mut line);
-    assert!(rt; recorded.answer == Recording::Faulty(FrameFile::End));
+    let fault = Notice::new(2, Layer::Line, 1, 0);
+    assert!(rt; recorded.answer == Recording::Faulty(FrameFile::End, fault));
     assert!(rt; recorded.record_len == 0);
     assert!(rt; bytes.as_slice() == b"\x07\x07".as_slice());
     assert!(rt; recorded.line_len == 17);

@@ -27,7 +27,7 @@ pub(crate) fn inspect_files(rt: &HostRuntime, start: &str, end: &str) -> u8
     let run = inspect_paths(rt, start, end);
     let status = status(&run);
     match run {
-        Ok(FramesEnding::Faulty(file)) => {
+        Ok(FramesEnding::Faulty(file, _)) => {
             tell(rt, name_of(Site::File(file), start, end), "it has a fault");
         }
         Ok(_) => {}
@@ -42,8 +42,10 @@ fn status<E>(run: &Result<FramesEnding, E>) -> u8
 {
     match run {
         Ok(FramesEnding::Covered | FramesEnding::Refused(_)) => 0,
-        Ok(FramesEnding::Unsearched | FramesEnding::Faulty(_) | FramesEnding::Different) | Err(_) =>
-            1,
+        Ok(
+            FramesEnding::Unsearched(_) | FramesEnding::Faulty(..) | FramesEnding::Different(_),
+        )
+        | Err(_) => 1,
     }
 }
 
@@ -88,7 +90,7 @@ fn inspect_paths(
         &mut page,
         &mut [],
     );
-    if account.ending == FramesEnding::Faulty(FrameFile::Start) {
+    if let FramesEnding::Faulty(FrameFile::Start, _) = account.ending {
         return print_account(&mut disk, account, &page);
     }
     let second_len = disk.fill(FrameFile::End, end, &mut second)?;

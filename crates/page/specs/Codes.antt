@@ -10,21 +10,21 @@ use Rattle.two_frames.specs.declared.endings.FramesEnding.TheVariants as ending
 
 abbrev pub code_of_plan : Ending → ℕ
 code_of_plan plan_ending.Complete = 0
-code_of_plan plan_ending.Faulty = 1
+code_of_plan (plan_ending.Faulty n) = 1
 
 abbrev pub code_of_recording : Recording → ℕ
 code_of_recording recording.Recorded = 0
-code_of_recording (recording.Faulty Start) = 1
-code_of_recording (recording.Faulty End) = 2
-code_of_recording recording.Different = 3
+code_of_recording (recording.Faulty Start n) = 1
+code_of_recording (recording.Faulty End n) = 2
+code_of_recording (recording.Different d) = 3
 
 abbrev pub code_of_frames : FramesEnding → ℕ
 code_of_frames ending.Covered = 0
 code_of_frames (ending.Refused n) = 1
-code_of_frames ending.Unsearched = 2
-code_of_frames (ending.Faulty Start) = 3
-code_of_frames (ending.Faulty End) = 4
-code_of_frames ending.Different = 5
+code_of_frames (ending.Unsearched n) = 2
+code_of_frames (ending.Faulty Start n) = 3
+code_of_frames (ending.Faulty End n) = 4
+code_of_frames (ending.Different d) = 5
 
 -- how many pairs were refused
 abbrev pub refused_in : FramesEnding → ℕ

@@ -58,6 +58,6 @@ pub(crate) fn code_of_plan(ending: Ending) -> u32
 {
     match ending {
         Ending::Complete => 0,
-        Ending::Faulty => 1,
+        Ending::Faulty(_) => 1,
     }
 }

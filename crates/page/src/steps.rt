@@ -55,8 +55,8 @@ fn code_of_recording(answer: Recording) -> u32
 {
     match answer {
         Recording::Recorded => 0,
-        Recording::Faulty(FrameFile::Start) => 1,
-        Recording::Faulty(FrameFile::End) => 2,
-        Recording::Different => 3,
+        Recording::Faulty(FrameFile::Start, _) => 1,
+        Recording::Faulty(FrameFile::End, _) => 2,
+        Recording::Different(_) => 3,
     }
 }

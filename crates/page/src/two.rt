@@ -71,10 +71,10 @@ fn code_of_frames(ending: FramesEnding) -> u32
     match ending {
         FramesEnding::Covered => 0,
         FramesEnding::Refused(_) => 1,
-        FramesEnding::Unsearched => 2,
-        FramesEnding::Faulty(FrameFile::Start) => 3,
-        FramesEnding::Faulty(FrameFile::End) => 4,
-        FramesEnding::Different => 5,
+        FramesEnding::Unsearched(_) => 2,
+        FramesEnding::Faulty(FrameFile::Start, _) => 3,
+        FramesEnding::Faulty(FrameFile::End, _) => 4,
+        FramesEnding::Different(_) => 5,
     }
 }
 

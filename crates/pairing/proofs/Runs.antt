@@ -76,10 +76,10 @@ module _ {S E : Type 0} (does : S → Event PlanFile → S → Type 0) (fails : 
       })
 
   module _ (ps : List Point) (fs : List Face) (s t u : S) (r : Result Ending E) where
-    pub faulty : (n : Notice) → PlanRead does fails ps fs s (Ok (Err n)) t → Writes does fails (Printed (notice_line n) ∷ []) Faulty t r u → FindsPairs does fails s r u
+    pub faulty : (n : Notice) → PlanRead does fails ps fs s (Ok (Err n)) t → Writes does fails (Printed (notice_line n) ∷ []) (Faulty n) t r u → FindsPairs does fails s r u
     unfolding PlanRead
     faulty n read =
-        ends_so s t u read.events read.good.reads_only read.went r (record { pairs_stored = None; line = notice_line n; ending = Faulty })
+        ends_so s t u read.events read.good.reads_only read.went r (record { pairs_stored = None; line = notice_line n; ending = Faulty n })
         (λ p h. let k = read.good.says p h in (ap (λ o. unless_faulty o (unless_faulty (search_fault p) (paired (draft p).faces (near_pairs (sheet p))))) k.0, k.1))
 
     pub searched : (d : Draft) → PlanRead does fails ps fs s (Ok (Ok d)) t → (let o = pairing_in d ps fs in Writes does fails (writes_of o) o.ending t r u) → FindsPairs does fails s r u

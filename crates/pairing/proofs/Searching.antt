@@ -17,7 +17,7 @@ use Rattle.printout.specs.declared.endings.Ending.TheVariants.{Faulty}
 use Rattle.pairing.specs.Pairings.{node_room, pair_room, paired, pairing_in, writes_of}
 
 module _ {S F E : Type 0} (does : S → Event F → S → Type 0) (fails : S → Call F → E → S → Type 0) (s t : S) (r : Result Ending E) (d : Draft) (ps : List Point) (fs : List Face) where
-  pub fault_told : (n : Notice) → Some n ≡ first_fit (search_checks d ps fs node_room pair_room) → Writes does fails (Printed (notice_line n) ∷ []) Faulty s r t
+  pub fault_told : (n : Notice) → Some n ≡ first_fit (search_checks d ps fs node_room pair_room) → Writes does fails (Printed (notice_line n) ∷ []) (Faulty n) s r t
       → (let o = pairing_in d ps fs in Writes does fails (writes_of o) o.ending s r t)
   unfolding pairing_in
   fault_told n fits told = rw (← fits) told

@@ -55,7 +55,7 @@ pub record Pairing : Type 0 where
 abbrev pub unless_faulty : Option Notice → Pairing → Pairing
 unless_faulty None o = o
 unless_faulty (Some n) o =
-    record { pairs_stored = None; line = notice_line n; ending = Faulty }
+    record { pairs_stored = None; line = notice_line n; ending = Faulty n }
 
 -- of so many faces these pairs are found
 abbrev pub paired : ℕ → List Pair → Pairing

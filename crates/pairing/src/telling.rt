@@ -21,10 +21,10 @@ pub(crate) fn tell<H: Host>(text: &str, ending: Ending, host: &mut H) -> Result<
 
 /// Prints the line of a fault that ends the work.
 pub(crate) fn tell_fault<H: Host>(notice: Notice, host: &mut H) -> Result<Ending, H::Error>
-    ensures { Writes H.does H.fails (Printed (notice_line notice) ∷ []) Faulty
+    ensures { Writes H.does H.fails (Printed (notice_line notice) ∷ []) (Faulty notice)
         host.old result host.new }
 {
-    tell(notice_line(notice).as_str(), Ending::Faulty, host)
+    tell(notice_line(notice).as_str(), Ending::Faulty(notice), host)
 }
 
 /// A fault's line, with its line feed.

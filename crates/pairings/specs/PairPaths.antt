@@ -17,4 +17,4 @@ pairs_path p = Some (path_of p Pairs)
 -- where pairs were stored, they are kept, and only then their line goes out
 abbrev pub lasts : Paths → Ending → List (Deed PlanFile)
 lasts p Complete = Kept (path_of p Pairs) ∷ Flushed ∷ []
-lasts p Faulty = Flushed ∷ []
+lasts p (Faulty n) = Flushed ∷ []

@@ -48,7 +48,7 @@ impl FilePaths for Paths {
     fn last(&self, ending: Ending) -> Last<'_> {
         match ending {
             Ending::Complete => Last::KeepThenFlush(self.plan.pairs.as_str()),
-            Ending::Faulty => Last::Flush,
+            Ending::Faulty(_) => Last::Flush,
         }
     }
 }

@@ -30,4 +30,4 @@ AreIn folder p = (f : PlanFile) → path_of p f ≡ path_join folder (file_name 
 -- all that is printed goes out, and then, where all was inspected, what was stored is kept
 abbrev pub lasts : Paths → Ending → List (Deed PlanFile)
 lasts p Complete = Flushed ∷ option_to_list (option_map Kept (refused_path p))
-lasts p Faulty = Flushed ∷ []
+lasts p (Faulty n) = Flushed ∷ []

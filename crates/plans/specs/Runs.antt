@@ -19,5 +19,5 @@ InspectsFolder does fails s r t =
 -- the exit status: zero where all was inspected
 abbrev pub status_after : {E : Type 0} → Result Ending E → ℕ
 status_after (Ok Complete) = 0
-status_after (Ok Faulty) = 1
+status_after (Ok (Faulty n)) = 1
 status_after (Err e) = 1

@@ -72,7 +72,7 @@ impl FilePaths for Paths {
                 Some(path) => Last::FlushThenKeep(path),
                 None => Last::Flush,
             },
-            Ending::Faulty => Last::Flush,
+            Ending::Faulty(_) => Last::Flush,
         }
     }
 }

@@ -24,6 +24,6 @@ pub fn status<E>(run: &Result<Ending, E>) -> u8
 {
     match run {
         Ok(Ending::Complete) => 0,
-        Ok(Ending::Faulty) | Err(_) => 1,
+        Ok(Ending::Faulty(_)) | Err(_) => 1,
     }
 }

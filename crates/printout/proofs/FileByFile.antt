@@ -133,7 +133,7 @@ module _ (p : Plan) where
 module _ (p : Plan) (needed_in : ℕ → List PlanFile) where
   -- ---- the line of a fault is printed after the file that has it
   pub comes_faulty : (n : Notice) → fault p ≡ Some n → (f : PlanFile) (size : ℕ) (bytes : List ℕ) → needed_in 0 ≡ f ∷ [] → (es : List (Event PlanFile)) (how : Result Ending (Call PlanFile))
-      → TellsText (notice_line n) (λ end. end ≡ Faulty) es how → Comes p needed_in (Read f size bytes ∷ es) how
+      → TellsText (notice_line n) (λ end. end ≡ Faulty n) es how → Comes p needed_in (Read f size bytes ∷ es) how
   comes_faulty n is f size bytes last es how (told, faulty) =
       record {
         rest = told.rest;
@@ -148,14 +148,14 @@ module _ (p : Plan) (needed_in : ℕ → List PlanFile) where
       made : printout p ≡ printout_by p (Some n)
       made = ap (printout_by p) is
 
-      ends : (how : Result Ending (Call PlanFile)) → IfOk how (λ end. end ≡ Faulty) → LeavesUntold how told.rest → IfOk how (Ends p told.rest [])
+      ends : (how : Result Ending (Call PlanFile)) → IfOk how (λ end. end ≡ Faulty n) → LeavesUntold how told.rest → IfOk how (Ends p told.rest [])
       ends (Err call) faulty untold = tt
       ends (Ok end) faulty untold =
           record {
             told = untold;
             read = refl;
             ending = faulty ∙ ap (λ o. o.ending) (sym made);
-            complete = (λ c. let e : Faulty ≡ Complete = sym faulty ∙ c in cc, λ none. let e : Some n ≡ None = sym is ∙ none in cc);
+            complete = (λ c. let e : Faulty n ≡ Complete = sym faulty ∙ c in cc, λ none. let e : Some n ≡ None = sym is ∙ none in cc);
             claim = λ none. let e : Some n ≡ None = sym is ∙ none in cc;
           }
 
@@ -192,16 +192,16 @@ module _ {S E : Type 0} (does : S → Event PlanFile → S → Type 0) (fails : 
   sheet_unread s t e r f is = inspects s t r (ran_none does fails Whole s t (Reading Sheet) e r is f (λ p reads. comes_unread p (needed p) Sheet (files_after (sheet_fault p) (after_sheet p 0)) refl))
 
   module _ (s m t : S) (size : ℕ) (text : List ℕ) (did : does s (Read Sheet size text) m) (limit : size ≡ text_limit + 1) where
-    pub sheet_faulty : (n : Notice) → Some n ≡ first_fit (sheet_checks text point_limit face_limit) → (r : Result Ending E) → Prints does fails (notice_line n) m r t → IfOk r (λ e. e ≡ Faulty)
+    pub sheet_faulty : (n : Notice) → Some n ≡ first_fit (sheet_checks text point_limit face_limit) → (r : Result Ending E) → Prints does fails (notice_line n) m r t → IfOk r (λ e. e ≡ Faulty n)
         → Inspects does fails s r t
     sheet_faulty n fits r print faulty =
         inspects s t r
-        (ran_after does fails Whole (TellsText (notice_line n) (λ e. e ≡ Faulty)) s m t (Read Sheet size text ∷ []) (next (Read Sheet size text) nothing did)
+        (ran_after does fails Whole (TellsText (notice_line n) (λ e. e ≡ Faulty n)) s m t (Read Sheet size text ∷ []) (next (Read Sheet size text) nothing did)
         (λ es how told p reads.
         let is = first_bytes Sheet size text p.sheet es refl (none_read Sheet es how told.0.files) (reads Sheet) in
         let has = sym (sheet_fault_of p size text limit is) ∙ sym fits in
         comes_faulty p (needed p) n (ap (λ o. or_else o (step_fault p)) has) Sheet size text (ap (λ o. Sheet ∷ files_after o (after_sheet p 0)) has) es how told)
-        r (told_print does fails (λ e. e ≡ Faulty) m t (notice_line n) r print faulty))
+        r (told_print does fails (λ e. e ≡ Faulty n) m t (notice_line n) r print faulty))
 
     pub sheet_accepted : (d : Draft) (ps qs : List Point) (fs gs : List Face) → None ≡ first_fit (sheet_checks text point_limit face_limit) → d ≡ draft_of text
         → (r : Result Ending E) → qs ≡ onto_front (points_in (numbered text)) ps → gs ≡ onto_front (faces_in (numbered text)) fs → RunsFromStep does fails d qs gs m r t → Inspects does fails s r t
@@ -227,11 +227,11 @@ module _ {S E : Type 0} (does : S → Event PlanFile → S → Type 0) (fails : 
         (All-nil (λ g. same_file Sheet g ≡ false), λ p holds step pairs. comes_unread p (after_sheet p) Step (files_after (step_fault p) []) refl)
 
     module _ (s m t : S) (size : ℕ) (bytes : List ℕ) (did : does s (Read Step size bytes) m) (limit : size ≡ record_limit + 1) (room : d.points ≤ length ps) (few : d.points ≤ point_limit) where
-      pub step_faulty : (n : Notice) → Some n ≡ first_fit (lay_checks d.points ps bytes) → (r : Result Ending E) → Prints does fails (notice_line n) m r t → IfOk r (λ e. e ≡ Faulty)
+      pub step_faulty : (n : Notice) → Some n ≡ first_fit (lay_checks d.points ps bytes) → (r : Result Ending E) → Prints does fails (notice_line n) m r t → IfOk r (λ e. e ≡ Faulty n)
           → RunsFromStep does fails d ps fs s r t
       unfolding RunsFromStep
       step_faulty n fits r print faulty =
-          ran_after does fails (AfterSheet d ps fs) (TellsText (notice_line n) (λ e. e ≡ Faulty)) s m t (Read Step size bytes ∷ []) (next (Read Step size bytes) nothing did)
+          ran_after does fails (AfterSheet d ps fs) (TellsText (notice_line n) (λ e. e ≡ Faulty n)) s m t (Read Step size bytes ∷ []) (next (Read Step size bytes) nothing did)
           (λ es how told. (
             also es size bytes (none_read Sheet es how told.0.files),
             λ p h step pairs.
@@ -239,7 +239,7 @@ module _ {S E : Type 0} (does : S → Event PlanFile → S → Type 0) (fails : 
                 let has = sym (step_fault_of p d ps fs h room few size bytes limit is) ∙ sym fits in
                 comes_faulty p (after_sheet p) n ((λ i. or_else (h.no_fault i) (step_fault p)) ∙ has) Step size bytes (ap (λ o. Step ∷ files_after o []) has) es how told,
           ))
-          r (told_print does fails (λ e. e ≡ Faulty) m t (notice_line n) r print faulty)
+          r (told_print does fails (λ e. e ≡ Faulty n) m t (notice_line n) r print faulty)
 
       pub step_accepted : None ≡ first_fit (lay_checks d.points ps bytes) → (qs : List Point) (r : Result Ending E) → qs ≡ onto_front (with_ends (take d.points ps) bytes) ps
           → RunsFromPairs does fails d qs fs m r t → RunsFromStep does fails d ps fs s r t

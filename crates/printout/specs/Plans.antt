@@ -75,7 +75,7 @@ module _ (set : Shape → Bool) (p : Plan) where
 
   -- a line for each pair that is refused, and then the report; or the line of the fault
   abbrev pub printed_by : Option Notice → Printout
-  printed_by (Some n) = record { text = notice_line n; stored = []; ending = Faulty }
+  printed_by (Some n) = record { text = notice_line n; stored = []; ending = Faulty n }
   printed_by None =
       record {
         text = refusal_lines walk_by ++ report_by walk_by.found;

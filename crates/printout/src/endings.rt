@@ -1,10 +1,12 @@
 // How a run ends.
 
+use sheet::Notice;
+
 /// How a run ends.
 #[derive(Clone, Copy, Debug, PartialEq, Eq)]
 pub enum Ending {
     /// All was inspected and reported.
     Complete,
-    /// A fault was told that ends the run.
-    Faulty,
+    /// This fault was told, which ends the run.
+    Faulty(Notice),
 }

@@ -57,8 +57,8 @@ fn inspect_step<H: Host<File = PlanFile>>(
 /// Prints the line of a fault that ends the run.
 fn tell_fault<H: Host>(host: &mut H, notice: Notice) -> Result<Ending, H::Error>
     ensures line { Prints H.does H.fails (notice_line notice) host.old result host.new }
-    ensures ending { IfOk result (λ ending. ending ≡ Faulty) }
+    ensures ending { IfOk result (λ ending. ending ≡ Faulty notice) }
 {
     print_notice(host, notice)?;
-    Ok(Ending::Faulty)
+    Ok(Ending::Faulty(notice))
 }

@@ -1,5 +1,6 @@
 // Plans in memory, and what is printed and stored of them.
 use printout::{Ending, Inspected, Tables, inspect_bytes};
+use sheet::{Layer, Notice};
 use std::test::Fail;
 
 pub const SHEET: &[u8] =
@@ -123,7 +124,7 @@ fn a_fault_of_the_sheet_ends_the_run() -> Result<(), Fail> {
         b"",
         b"fault 1 field 1 3\n",
         b"",
-        Ending::Faulty,
+        Ending::Faulty(Notice::new(1, Layer::Field, 1, 3)),
     )
 }
 
@@ -135,7 +136,7 @@ fn a_fault_of_the_step_ends_the_run() -> Result<(), Fail> {
         b"",
         b"fault 9 step 0 0\n",
         b"",
-        Ending::Faulty,
+        Ending::Faulty(Notice::new(9, Layer::Step, 0, 0)),
     )
 }
 

@@ -17,5 +17,5 @@ step_path p = Some (string_bytes p.step)
 -- where a record was stored, it is kept, and only then its line goes out
 abbrev pub lasts : Paths → Recording → List (Deed FrameFile)
 lasts p Recorded = Kept (string_bytes p.step) ∷ Flushed ∷ []
-lasts p (Faulty f) = Flushed ∷ []
-lasts p Different = Flushed ∷ []
+lasts p (Faulty f n) = Flushed ∷ []
+lasts p (Different d) = Flushed ∷ []

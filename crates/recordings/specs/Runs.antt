@@ -20,6 +20,6 @@ RecordsFrames does fails s r t =
 -- the exit status: zero where a record was stored
 abbrev pub status_after : {E : Type 0} → Result Recording E → ℕ
 status_after (Ok Recorded) = 0
-status_after (Ok (Faulty f)) = 1
-status_after (Ok Different) = 1
+status_after (Ok (Faulty f n)) = 1
+status_after (Ok (Different d)) = 1
 status_after (Err e) = 1

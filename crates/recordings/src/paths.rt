@@ -37,7 +37,7 @@ impl FilePaths for Paths {
     fn last(&self, recording: Recording) -> Last<'_> {
         match recording {
             Recording::Recorded => Last::KeepThenFlush(self.step.as_str()),
-            Recording::Faulty(_) | Recording::Different => Last::Flush,
+            Recording::Faulty(..) | Recording::Different(_) => Last::Flush,
         }
     }
 }

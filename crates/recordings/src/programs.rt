@@ -23,7 +23,7 @@ pub fn record_frames(rt: &HostRuntime, paths: Paths) -> u8
     let run = record_on_disk(&mut tables, &mut frames);
     match &run {
         Err(failure) => tell(rt, site_name(&frames.paths, failure.site), failure.reason),
-        Ok(Recording::Faulty(file)) => tell(rt, frames.paths.path(*file), "it has a fault"),
+        Ok(Recording::Faulty(file, _)) => tell(rt, frames.paths.path(*file), "it has a fault"),
         Ok(_) => {}
     }
     status(&run)

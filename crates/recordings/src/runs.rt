@@ -24,6 +24,6 @@ pub fn status<E>(run: &Result<Recording, E>) -> u8
 {
     match run {
         Ok(Recording::Recorded) => 0,
-        Ok(Recording::Faulty(_) | Recording::Different) | Err(_) => 1,
+        Ok(Recording::Faulty(..) | Recording::Different(_)) | Err(_) => 1,
     }
 }

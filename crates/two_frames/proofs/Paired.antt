@@ -16,7 +16,7 @@ use Rattle.two_frames.proofs.FourBytes.{four_each}
 
 abbrev is_complete : Ending → Bool
 is_complete Complete = true
-is_complete Faulty = false
+is_complete (Faulty n) = false
 
 pub record IsPaired (p : Plan) (o : Pairing) : Type 0 where
   pub no_fault : fault p ≡ None

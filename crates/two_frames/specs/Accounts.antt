@@ -58,13 +58,13 @@ behind line rest =
 -- behind the line of the pairs
 abbrev pub after_pairing : List ℕ → Ending → Account → Account
 after_pairing line plan_ending.Complete rest = behind line rest
-after_pairing line plan_ending.Faulty rest = ends_there line ending.Unsearched
+after_pairing line (plan_ending.Faulty n) rest = ends_there line (ending.Unsearched n)
 
 -- behind the line of the step
 abbrev pub after_recording : List ℕ → Recording → Account → Account
 after_recording line Recorded rest = behind line rest
-after_recording line (Faulty file) rest = ends_there line (ending.Faulty file)
-after_recording line Different rest = ends_there line ending.Different
+after_recording line (Faulty file n) rest = ends_there line (ending.Faulty file n)
+after_recording line (Different d) rest = ends_there line (ending.Different d)
 
 -- of a sheet and its step
 abbrev pub searched : List ℕ → List ℕ → Account

@@ -1,5 +1,7 @@
 // How a run from two frames ends.
-use frames::FrameFile;
+
+use frames::{Difference, FrameFile};
+use sheet::Notice;
 
 /// How a run from two frames ends.
 #[derive(Clone, Copy, Debug, PartialEq, Eq)]
@@ -8,10 +10,10 @@ pub enum FramesEnding {
     Covered,
     /// So many of the near pairs were refused, and the others inspected.
     Refused(usize),
-    /// The search for near pairs has a fault.
-    Unsearched,
-    /// A frame has a fault.
-    Faulty(FrameFile),
-    /// They are not frames of one sheet.
-    Different,
+    /// The search for near pairs has this fault.
+    Unsearched(Notice),
+    /// A frame has this fault.
+    Faulty(FrameFile, Notice),
+    /// They are not frames of one sheet: they differ so.
+    Different(Difference),
 }

@@ -75,12 +75,12 @@ pub fn inspect_frames(
             );
             rest.behind(line_len)
         }
-        Recording::Faulty(file) => Accounted {
-            ending: FramesEnding::Faulty(file),
+        Recording::Faulty(file, notice) => Accounted {
+            ending: FramesEnding::Faulty(file, notice),
             printed_len: line_len,
         },
-        Recording::Different => Accounted {
-            ending: FramesEnding::Different,
+        Recording::Different(difference) => Accounted {
+            ending: FramesEnding::Different(difference),
             printed_len: line_len,
         },
     }
@@ -115,8 +115,8 @@ fn inspect_sheet(
             let rest = inspect_pairs(plan, sheet, step, pairs, &mut page[shown..], refused);
             rest.behind(line_len)
         }
-        Ending::Faulty => Accounted {
-            ending: FramesEnding::Unsearched,
+        Ending::Faulty(notice) => Accounted {
+            ending: FramesEnding::Unsearched(notice),
             printed_len: line_len,
         },
     }

@@ -1,6 +1,6 @@
 // What is said, as text.
 use std::test::Fail;
-use wording::{WORDS_ROOM, fault_words, refused_words};
+use wording::{WORDS_ROOM, counts_differ_words, face_differs_words, fault_words, refused_words};
 
 /// Whether this is what is said of a fault.
 pub(crate) fn says(number: u32, places: (u32, u32), line: &[u8], sentence: &str) -> bool {
@@ -13,6 +13,20 @@ pub(crate) fn says(number: u32, places: (u32, u32), line: &[u8], sentence: &str)
 pub(crate) fn says_refused(count: usize, sentence: &str) -> bool {
     let mut words = [0; WORDS_ROOM];
     let len = refused_words(count, &mut words);
+    &words[..len] == sentence.as_bytes()
+}
+
+/// Whether this is what is said of two frames that have not as many of these things.
+pub(crate) fn says_counts_differ(first: u16, second: u16, things: &str, sentence: &str) -> bool {
+    let mut words = [0; WORDS_ROOM];
+    let len = counts_differ_words(first, second, things, &mut words);
+    &words[..len] == sentence.as_bytes()
+}
+
+/// Whether this is what is said of two frames that differ in a face.
+pub(crate) fn says_face_differs(face: usize, sentence: &str) -> bool {
+    let mut words = [0; WORDS_ROOM];
+    let len = face_differs_words(face, &mut words);
     &words[..len] == sentence.as_bytes()
 }
 

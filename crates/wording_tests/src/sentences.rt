@@ -1,5 +1,5 @@
 // The sentence of each fault, and of refused pairs.
-use crate::saying::{says, says_refused};
+use crate::saying::{says, says_counts_differ, says_face_differs, says_refused};
 use std::test::Fail;
 
 #[test]
@@ -176,6 +176,25 @@ fn refused_pairs(rt: HostRuntime) -> Result<(), Fail> {
         says_refused(
             1000000,
             "1,000,000 pairs were refused. Of them nothing is said."
+        )
+    );
+    Ok(())
+}
+
+#[test]
+fn frames_that_differ(rt: HostRuntime) -> Result<(), Fail> {
+    assert!(rt;
+        says_counts_differ(
+            36,
+            35,
+            "points",
+            "These are no frames of one sheet: the first has 36 points, the second 35."
+        )
+    );
+    assert!(rt;
+        says_face_differs(
+            49,
+            "These are no frames of one sheet: face 49, counted from 0, is another one."
         )
     );
     Ok(())
