@@ -51,17 +51,20 @@ class Listener:
         self.open = []
 
     def requests(self):
-        """How many requests have come since the last time. A connection alone is none: a browser may open one before it asks the policy."""
-        count = 0
+        """What has been asked for since the last time. A connection alone asks nothing: a browser may open one before it asks the policy."""
+        asked = []
         while True:
-            ready, _, _ = select.select([self.socket, *self.open], [], [], 0.02)
+            ready, _, _ = select.select([self.socket, *self.open], [], [], 0)
             if not ready:
-                return count
+                return asked
             for it in ready:
                 if it is self.socket:
                     self.open.append(it.accept()[0])
                 else:
-                    count += bool(it.recv(65536))
+                    request = it.recv(65536).decode(errors="replace")
+                    if request:
+                        asked.append(request.splitlines()[0])
+                        it.sendall(b"HTTP/1.1 204 No Content\r\nConnection: close\r\n\r\n")
                     self.open.remove(it)
                     it.close()
 
@@ -113,7 +116,7 @@ class Bench:
         same("what the page asked of the network", page.asked, [])
         same("what went wrong in the page", page.errors, [])
 
-    def finish(self, page, act, seconds=10):
+    def finish(self, page, act, seconds=20):
         """Does something that begins a run, and waits until the run has ended well."""
         runs = self.runs(page)
         state = self.state(page)
@@ -225,7 +228,15 @@ class Bench:
     def still(self, page):
         """Waits until the view has turned, and is drawn."""
         page.wait("document.body.dataset.view !== 'moving'")
-        page.evaluate("new Promise((done) => requestAnimationFrame(() => requestAnimationFrame(done)))")
+        self.drawn(page, 2)
+
+    def drawn(self, page, count):
+        """Waits until the page was drawn so often."""
+        page.evaluate("(count) => new Promise((done) => { const next = () => (count-- ? requestAnimationFrame(next) : done()); next(); })", count)
+
+    def settled(self, page):
+        """Waits until no colour or place of the page changes any more."""
+        page.wait("document.getAnimations().length === 0")
 
 
 # in the empty page that reads pictures

@@ -225,22 +225,18 @@ class Page:
             raise Fault(details.get("exception", {}).get("description") or details["text"])
         return answer["result"].get("value")
 
-    def wait(self, expression, seconds=10):
+    def wait(self, expression, seconds=20):
         """Waits until an expression is true, and answers its value."""
-        end = time.monotonic() + seconds
-        while True:
-            value = self.evaluate(expression)
-            if value:
-                return value
-            if time.monotonic() > end:
-                raise Fault(f"not in {seconds} seconds: {expression}")
-            self.browser.pump(0.005)
+        return self.until(expression, lambda: self.evaluate(expression), seconds)
 
-    def rest(self, seconds):
-        """Takes what the browser tells for so long."""
+    def until(self, what, holds, seconds=20):
+        """Takes what the browser tells until this holds, and answers its value."""
         end = time.monotonic() + seconds
-        while time.monotonic() < end:
-            self.browser.pump(end - time.monotonic())
+        while not (value := holds()):
+            if time.monotonic() > end:
+                raise Fault(f"not in {seconds} seconds: {what}")
+            self.browser.pump(0.005)
+        return value
 
     def node(self, selector):
         root = self.call("DOM.getDocument", depth=0)["root"]["nodeId"]

@@ -2,7 +2,7 @@
 
 import re
 
-from bench import CROSSING_END, CROSSING_PAIRS, CROSSING_START, CROSSING_STEP, EXAMPLE, full_lists, holds, long_run, same
+from bench import CROSSING_END, CROSSING_PAIRS, CROSSING_START, CROSSING_STEP, EXAMPLE, Fault, full_lists, holds, long_run, same
 
 IDS = "drop files example state stop conclusion counts entries refusals report fault downloads view step play where".split()
 # what a hand can reach: shown, and not switched off
@@ -34,6 +34,8 @@ FAINT = """(() => {
   return faint;
 })()"""
 REACH = """async (address) => {
+  // where only the policy tells that it was refused
+  const told = (act) => new Promise((done, failed) => { addEventListener('securitypolicyviolation', failed, { once: true }); act(); });
   const tries = {
     fetch: () => fetch(`http://${address}/`),
     request: () => new Promise((done, failed) => { const it = new XMLHttpRequest(); it.onload = done; it.onerror = failed; it.open('GET', `http://${address}/`); it.send(); }),
@@ -41,8 +43,8 @@ REACH = """async (address) => {
     script: () => new Promise((done, failed) => { const it = document.createElement('script'); it.onload = done; it.onerror = failed; it.src = `http://${address}/x.js`; document.head.append(it); }),
     style: () => new Promise((done, failed) => { const it = document.createElement('link'); it.rel = 'stylesheet'; it.onload = done; it.onerror = failed; it.href = `http://${address}/x.css`; document.head.append(it); }),
     socket: () => new Promise((done, failed) => { const it = new WebSocket(`ws://${address}/`); it.onopen = done; it.onerror = failed; }),
-    beacon: () => new Promise((done, failed) => { navigator.sendBeacon(`http://${address}/`, 'x'); setTimeout(failed, 60); }),
-    frame: () => new Promise((done, failed) => { const it = document.createElement('iframe'); it.src = `http://${address}/`; document.body.append(it); setTimeout(failed, 60); }),
+    beacon: () => told(() => navigator.sendBeacon(`http://${address}/`, 'x')),
+    frame: () => told(() => { const it = document.createElement('iframe'); it.src = `http://${address}/`; document.body.append(it); }),
   };
   const went = [];
   for (const [name, act] of Object.entries(tries)) await Promise.resolve().then(act).then(() => went.push(name), () => {});
@@ -106,10 +108,10 @@ def contrast(bench):
         page = full(bench)
         page.call("Emulation.setEmulatedMedia", features=[{"name": "prefers-color-scheme", "value": scheme}])
         page.evaluate("document.querySelector('details').open = true; document.querySelector('#entries button').click()")
-        page.rest(0.3)
+        bench.settled(page)
         same(f"faint texts in {scheme} colours", page.evaluate(FAINT), [])
         bench.choose(page, *bench.frames("fault", CROSSING_START.replace("v 1 1 1", "v 1 x 1"), CROSSING_END))
-        page.rest(0.3)
+        bench.settled(page)
         same(f"faint texts of a fault in {scheme} colours", page.evaluate(FAINT), [])
         bench.close(page)
 
@@ -137,7 +139,7 @@ def names(bench):
 
 
 def network(bench):
-    """Nothing can be asked of a network: whatever is tried, nothing arrives."""
+    """The policy refuses what would fetch or frame: whatever is tried, nothing arrives."""
     page = bench.page()
     bench.listener.requests()
     same("what went out of the page", page.evaluate(REACH, bench.listener.address), [])
@@ -145,21 +147,19 @@ def network(bench):
       const url = URL.createObjectURL(new Blob([`fetch('http://${address}/').then(() => postMessage('went'), () => postMessage('not'))`]));
       const worker = new Worker(url); worker.onmessage = ({ data }) => done(data); worker.onerror = () => done('not'); })"""
     same("a request of a worker", page.evaluate(in_worker, bench.listener.address), "not")
-    page.rest(0.1)
-    same("requests that arrived", bench.listener.requests(), 0)
-    holds("the content policy says nothing of what it refused", any("Content Security Policy" in it for it in page.errors))
+    page.until("the content policy says what it refused", lambda: any("Content Security Policy" in it for it in page.errors))
+    # a page without the policy gets out; when that has arrived, so would have what was asked before
+    other = bench.browser.open(bench.file("open.html", "<!doctype html><title>open</title>"))
+    other.evaluate("(address) => { fetch(`http://${address}/open`, { mode: 'no-cors' }).catch(() => 0); }", bench.listener.address)
+    arrived = other.until("a page without a policy reaches the port", bench.listener.requests)
+    other.close()
+    same("what arrived", arrived, ["GET /open HTTP/1.1"])
     page.asked.clear()
     page.errors.clear()
     bench.close(page)
     text = re.sub(r"[A-Za-z0-9+/=]{200,}", "", bench.html.read_text())
     same("addresses in the page", re.findall(r"(?:https?|wss?|ftp)://[^'\"` <]*", text), [])
     same("what it links to", re.findall(r"<(?:link|iframe|object|embed|base|form|img)\b[^>]*|<[^>]*\bsrc=[^>]*", text), [])
-    # a page without the policy gets out, so this would be seen
-    other = bench.browser.open(bench.file("open.html", "<!doctype html><title>open</title>"))
-    other.evaluate("(address) => { fetch(`http://${address}/`, { mode: 'no-cors' }).catch(() => 0); }", bench.listener.address)
-    other.rest(0.3)
-    holds("a page without a policy is not seen to reach the port", bench.listener.requests() > 0)
-    other.close()
 
 
 def nothing_stored(bench):
@@ -195,27 +195,23 @@ def downloads(bench):
 
 
 def saved(page, path, wanted):
-    for _ in range(200):
-        if path.exists() and path.read_bytes() == wanted:
-            return
-        page.rest(0.02)
-    same(f"the saved {path.name}", path.read_bytes() if path.exists() else None, wanted)
+    try:
+        page.until(f"{path.name} is saved", lambda: path.exists() and path.read_bytes() == wanted)
+    except Fault:
+        same(f"the saved {path.name}", path.read_bytes() if path.exists() else None, wanted)
 
 
 def stopped(bench):
     """A run over a million pairs is stopped, and the page works on."""
     page = bench.page()
     page.choose_files("#files", long_run(bench))
-    page.wait("document.body.dataset.state === 'working'", 5)
-    page.rest(0.2)
+    page.wait("document.getElementById('state').textContent.startsWith('Inspecting ')")
     holds("there is no button to stop", bench.seen(page, "#stop"))
-    holds("what goes on is not told", bench.text(page, "#state").strip())
-    same("the state while it works", bench.state(page), "working")
-    answers = page.evaluate("new Promise((done) => { const begun = performance.now(); setTimeout(() => done(performance.now() - begun), 20); })")
-    holds(f"the page does not answer while it works: {answers:.0f} ms", answers < 500)
+    bench.drawn(page, 3)
+    same("the state of a page that is drawn while it works", bench.state(page), "working")
     page.evaluate("document.getElementById('stop').focus()")
     page.press("Enter")
-    page.wait("document.body.dataset.state === 'stopped'", 3)
+    page.wait("document.body.dataset.state === 'stopped'")
     holds("the button to stop is still shown", not bench.seen(page, "#stop"))
     bench.shows_nothing(page)
     same("what has the focus", page.evaluate("document.activeElement.id"), "state")

@@ -16,8 +16,9 @@ ASK_FOLDERS = """async (folders) => {
   return answers;
 }"""
 SLOW_FILES = """(() => {
-  const slow = (name) => ({ name, file: { size: 1, arrayBuffer: () => new Promise((done) => setTimeout(() => done(new ArrayBuffer(1)), 1500)) } });
-  take([slow('a.obj'), slow('b.obj')]);
+  const read = new Promise((done) => { globalThis.letRead = () => done(new ArrayBuffer(1)); });
+  const slow = (name) => ({ name, file: { size: 1, arrayBuffer: () => read } });
+  globalThis.taken = take([slow('a.obj'), slow('b.obj')]);
 })()"""
 ASK_FRAMES = """async (folders) => {
   const unpack = (it) => Uint8Array.from(atob(it), (c) => c.charCodeAt(0));
@@ -237,11 +238,9 @@ def files_that_do_not_fit(bench):
     start, end = bench.frames("crossing", CROSSING_START, CROSSING_END)
     for paths in ((start,), (EXAMPLE / "step.bin",), (start, end, EXAMPLE / "sheet.obj"), (EXAMPLE / "report.txt",)):
         before = bench.text(page, "#state")
-        runs = bench.runs(page)
         page.choose_files("#files", paths)
-        page.rest(0.15)
-        told = bench.text(page, "#state") + (bench.text(page, "#fault") if bench.seen(page, "#fault") else "")
-        holds(f"nothing is told of {[it.name for it in paths]}", told != before or bench.runs(page) > runs)
+        page.until(f"something is told of {[it.name for it in paths]}", lambda: bench.text(page, "#state") != before)
+        same("the state", bench.state(page), "ready")
         bench.shows_nothing(page)
         bench.choose(page, start, end)
         same("the report", bench.text(page, "#report"), bench.inspected(start, end)[0])
@@ -305,15 +304,14 @@ def run_upon_run(bench):
     """Files that come while others are inspected: what is shown is of the last."""
     page = bench.page()
     page.choose_files("#files", long_run(bench))
-    page.wait("document.body.dataset.state === 'working'", 5)
+    page.wait("document.body.dataset.state === 'working'")
     bench.example(page)
-    page.rest(0.3)
     bench.inspects(page, "the last", EXAMPLE / "sheet.obj", EXAMPLE / "next.obj")
     same("the finished runs", bench.runs(page), 1)
     # files that are still being read when others come, and are read later than these
     page.evaluate(SLOW_FILES)
     bench.example(page)
-    page.rest(1.5)
+    page.evaluate("letRead(); taken")
     same("the finished runs", (bench.state(page), bench.runs(page)), ("done", 2))
     bench.inspects(page, "the last", EXAMPLE / "sheet.obj", EXAMPLE / "next.obj")
     bench.close(page)

@@ -108,7 +108,7 @@ def failing(bench):
         page = bench.page(html=bench.file("failing.html", changed))
         for _ in range(2):
             page.choose_files("#files", [EXAMPLE / it for it in PLAN])
-            page.wait("document.body.dataset.state === 'stopped'", 5)
+            page.wait("document.body.dataset.state === 'stopped'")
             same(f"{name}: what is told", bench.text(page, "#state"), "The run stopped: no memory. Nothing is said of these files.")
             bench.shows_nothing(page)
             bench.choose(page, start, end)

@@ -54,7 +54,6 @@ def chosen(bench):
     holds("the listed point and face are not marked", before[0] > 0)
     page.evaluate(FOCUS_ENTRY, 0)
     page.press("Enter")
-    page.rest(0.05)
     bench.still(page)
     same("the chosen entries", page.evaluate(PRESSED), [0])
     after, middle = bench.marks(page), bench.marks(page, bench.middle(page))
@@ -84,7 +83,6 @@ def each_chosen(bench):
     for n in entries:
         page.evaluate(FOCUS_ENTRY, n)
         page.press("Enter")
-        page.rest(0.05)
         bench.still(page)
         same("the chosen entries", page.evaluate(PRESSED), [n])
         kind, *_, first, last = lines[n]
@@ -171,11 +169,10 @@ def played(bench):
     where = bench.text(page, "#where")
     page.evaluate("document.getElementById('play').focus()")
     page.press("Enter")
-    page.wait("Number(document.getElementById('step').value) > 30", 5)
+    page.wait("Number(document.getElementById('step').value) > 30")
     page.press("Enter")
-    page.rest(0.1)
     stands = step_of(page)
-    page.rest(0.15)
+    bench.drawn(page, 20)
     same("the step, once it does not play", step_of(page), stands)
     holds("where in the step is not told", bench.text(page, "#where") != where)
     # the slider by keys
@@ -228,12 +225,12 @@ def given_back(bench):
         bench.still(page)
         if loses:
             page.evaluate("(() => { globalThis.losing = document.getElementById('view').getContext('webgl').getExtension('WEBGL_lose_context'); losing.loseContext(); })()")
-            page.rest(0.1)
+            page.wait("!document.getElementById('no-picture').hidden")
         bench.drop(page, *folded_through(bench))
         same("whether it is told that there is no picture", bench.seen(page, "#no-picture"), loses)
         if loses:
             page.evaluate("losing.restoreContext()")
-            page.rest(0.1)
+            page.wait("document.getElementById('no-picture').hidden")
             page.errors.clear()
         bench.still(page)
         pictures.append(page.screenshot("#view"))
