@@ -50,6 +50,27 @@ REACH = """async (address) => {
   for (const [name, act] of Object.entries(tries)) await Promise.resolve().then(act).then(() => went.push(name), () => {});
   return went;
 }"""
+INJECT = """async () => {
+  const put = (tag, more) => { const it = Object.assign(document.createElement(tag), more); document.body.append(it); return it; };
+  const tries = {
+    handler: () => { document.body.insertAdjacentHTML('beforeend', '<button onclick="injected()">'); document.body.lastChild.click(); },
+    script: () => put('script', { textContent: 'injected()' }),
+    'script from a blob': () => put('script', { src: URL.createObjectURL(new Blob(['injected()'])) }),
+    'script from an address': () => put('script', { src: 'data:text/javascript,injected()' }),
+    link: () => put('a', { href: 'javascript:injected()' }).click(),
+    'text that is evaluated': () => setTimeout('injected()'),
+    style: () => { put('style', { textContent: '#files { --injected: 1; }' }); if (getComputedStyle(document.getElementById('files')).getPropertyValue('--injected')) injected(); },
+  };
+  const ran = [];
+  for (const [name, act] of Object.entries(tries)) {
+    await new Promise((done) => {
+      globalThis.injected = () => { ran.push(name); done(); };
+      addEventListener('securitypolicyviolation', done, { once: true });
+      act();
+    });
+  }
+  return [ran, Object.keys(tries)];
+}"""
 
 
 def full(bench):
@@ -162,6 +183,24 @@ def network(bench):
     same("what it links to", re.findall(r"<(?:link|iframe|object|embed|base|form|img)\b[^>]*|<[^>]*\bsrc=[^>]*", text), [])
 
 
+def injected(bench):
+    """What is put into the page, handlers and scripts and a style, does not run: the policy names those that do."""
+    page = bench.page()
+    ran, tries = page.evaluate(f"({INJECT})()")
+    same("what ran", ran, [])
+    page.until("the content policy says what it refused", lambda: len(page.errors) >= len(tries))
+    page.errors.clear()
+    bench.close(page)
+    # without a policy all of it runs, so it would be seen
+    open_page = re.sub(r'<meta http-equiv="Content-Security-Policy"[^>]*>', "", bench.html.read_text())
+    page = bench.page(html=bench.file("no-policy.html", open_page))
+    same("what runs without a policy", page.evaluate(f"({INJECT})()")[0], tries)
+    page.asked.clear()
+    page.errors.clear()
+    bench.close(page)
+    return f"{len(tries)} ways"
+
+
 def nothing_stored(bench):
     page = full(bench)
     same("what is stored", page.evaluate(KEPT), [0, 0, 0, ""])
@@ -241,6 +280,7 @@ tests = [
     ("names for a screen reader", names),
     ("texts stand out", contrast),
     ("nothing asked of the network", network),
+    ("nothing injected runs", injected),
     ("nothing stored", nothing_stored),
     ("downloads", downloads),
     ("a run that is stopped", stopped),

@@ -4,6 +4,7 @@ import re
 
 from bench import CROSSING_END, CROSSING_START, EXAMPLE, PLAN, TOP, holds, packed, same
 from modules import imported, named, opened
+from policy import hash_of
 from try_answers import ASK_FOLDERS
 
 WEB = TOP / "web"
@@ -103,6 +104,7 @@ def failing(bench):
         "in the worker": text.replace(begins, dead),
         "in the page": text.replace(shows, "if (what.kind === 'plan') throw new Error('no memory'); " + shows),
     }
+    pages = {name: changed.replace(hash_of(text, "script"), hash_of(changed, "script")) for name, changed in pages.items()}
     start, end = bench.frames("crossing", CROSSING_START, CROSSING_END)
     for name, changed in pages.items():
         page = bench.page(html=bench.file("failing.html", changed))
