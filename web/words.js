@@ -24,11 +24,11 @@ export function conclusionOf({ whole, faces, offered, refused, listed, source, a
     return { kind: 'nothing', main: why, more: offered === 0 ? [] : more, notes: [] };
   }
   if (listed === 0) {
-    return { kind: refused ? 'refused' : 'clear', main: `Nothing is listed: ${scope}, whatever has no point in common stays apart at every moment of the step.`, more, notes };
+    return { kind: refused ? 'refused' : 'clear', main: `Nothing is listed: ${scope}, whatever has no point in common stays apart at every fraction of the step.`, more, notes };
   }
   return {
     kind: 'listed',
-    main: `${count(listed, 'test is', 'tests are')} listed, where film may touch or not: ${scope}, whatever has no point in common and is not listed stays apart at every moment of the step.`,
+    main: `${count(listed, 'test is', 'tests are')} listed, where film may touch or not: ${scope}, whatever has no point in common and is not listed stays apart at every fraction of the step.`,
     more, notes,
   };
 }

@@ -9,13 +9,13 @@ const EE = { kind: 'EE', edges: [[1, 2], [3, 4]], window: { first: 3, last: 3 } 
 
 export const tests = [
   ['of two frames with nothing listed', () => {
-    equal(of(frames).main, 'Nothing is listed: of every two faces of the sheet, whatever has no point in common stays apart at every moment of the step.');
+    equal(of(frames).main, 'Nothing is listed: of every two faces of the sheet, whatever has no point in common stays apart at every fraction of the step.');
     equal(of(frames).more, []);
     equal(of(frames).notes, ['Nothing is said of film that passes through film already in the first frame.']);
   }],
   ['of two frames with tests listed', () => {
     equal(of({ ...frames, listed: 1 }).main,
-      '1 test is listed, where film may touch or not: of every two faces of the sheet, whatever has no point in common and is not listed stays apart at every moment of the step.');
+      '1 test is listed, where film may touch or not: of every two faces of the sheet, whatever has no point in common and is not listed stays apart at every fraction of the step.');
     holds(of({ ...frames, listed: 38 }).main.startsWith('38 tests are listed'), 'many');
   }],
   ['where pairs were refused the claim leaves them out', () => {
@@ -26,7 +26,7 @@ export const tests = [
     equal(many.more, ['1,200 pairs were refused. Of them nothing is said.']);
   }],
   ['of a plan the claim is of its pairs alone', () => {
-    equal(of(plan).main, 'Nothing is listed: of each of the 1,667 pairs of pairs.bin, whatever has no point in common stays apart at every moment of the step.');
+    equal(of(plan).main, 'Nothing is listed: of each of the 1,667 pairs of pairs.bin, whatever has no point in common stays apart at every fraction of the step.');
     holds(of({ ...plan, offered: 1 }).main.includes('of the one pair of pairs.bin'), 'one pair');
     holds(of({ ...plan, refused: 2, listed: 1 }).main.includes('of each pair of pairs.bin that was not refused, whatever'), 'refused');
     equal(of(plan).notes[0], 'Of pairs that were not offered nothing is said here.');
