@@ -91,6 +91,14 @@ def damaged(bench):
         page.asked.clear()
         page.errors.clear()
         bench.close(page)
+    # a script that was changed is not the one that the policy names, so it does not run
+    wired = "const begun = begin();"
+    holds("the page has another form", text.count(wired) == 1)
+    page = bench.browser.open(bench.file("changed-script.html", text.replace(wired, wired + " ")))
+    page.wait("document.readyState === 'complete'")
+    same("the state of a page whose script was changed", bench.state(page), "loading")
+    holds("that it was changed is not told", bench.text(page, "#state").endswith("get it again."))
+    page.close()
 
 
 def failing(bench):
