@@ -9,11 +9,12 @@ const bare = (size) => ({ bytes: null, size, counts: [] });
 export const FIRST_PAGE = 1 << 20;
 const REFUSAL = 24; // no line of a refused pair is longer
 const LONGEST_RECORD = 14336;
+const LONGEST_WORDS = 512;
 const MOST_POINTS = 2048;
 const MOST_FACES = 4096;
 const MOST_PAIRS = 1000000;
 
-const MODULE_CALLS = ['page_room', 'page_inspect', 'page_record', 'page_near', 'page_frames', 'page_sheet'];
+const MODULE_CALLS = ['page_room', 'page_inspect', 'page_record', 'page_near', 'page_frames', 'page_sheet', 'page_words', 'page_refused_words'];
 
 export async function makeCore(moduleBytes) {
   const module = await WebAssembly.compile(moduleBytes);
@@ -38,18 +39,26 @@ export function coreOf(wasm) {
     }
   }
 
-  // Lays the areas one after another, each at a multiple of 16, and calls. The first is for the result: a u32 and two u64.
-  function call(name, ...areas) {
+  // Lays areas one after another, each at a multiple of 16.
+  function lay(areas) {
     let end = base;
-    const places = [bare(24), ...areas].map((area) => {
+    const laid = areas.map((area) => {
       const place = Math.ceil(end / 16) * 16;
       end = place + area.size;
       return { ...area, place };
     });
     reach(end);
     const all = new Uint8Array(memory.buffer);
-    for (const { bytes, place } of places) if (bytes) all.set(bytes, place);
-    wasm[name](...places.flatMap(({ place, counts }) => [place, ...counts].map(BigInt)));
+    for (const { bytes, place } of laid) if (bytes) all.set(bytes, place);
+    return laid;
+  }
+
+  const passed = (laid) => laid.flatMap(({ place, counts }) => [place, ...counts].map(BigInt));
+
+  // Calls with areas of which the first is for the result: a u32 and two u64.
+  function call(name, ...areas) {
+    const places = lay([bare(24), ...areas]);
+    wasm[name](...passed(places));
     const told = new DataView(memory.buffer, places[0].place, 24);
     return {
       code: told.getUint32(0, true),
@@ -69,6 +78,14 @@ export function coreOf(wasm) {
       if (length <= size) return { ...answer, text: textOf(answer.front(page, length)) };
       size = length;
     }
+  }
+
+  // Calls for a sentence, by numbers and areas. What the call answers is how long it is.
+  function sentence(name, numbers, ...areas) {
+    const laid = lay([...areas, lent(LONGEST_WORDS)]);
+    const length = Number(wasm[name](...numbers, ...passed(laid)));
+    const { place } = laid[laid.length - 1];
+    return textOf(memory.buffer.slice(place, place + length));
   }
 
   const textOf = (buffer) => new TextDecoder().decode(buffer);
@@ -114,5 +131,11 @@ export function coreOf(wasm) {
         faces: new Uint16Array(answer.front(3, 6 * answer.second)),
       };
     },
+
+    // what a fault says in words. `line` has the bytes of the line of a text that it speaks of, or none.
+    words: ({ number, places }, line) => sentence('page_words', [number, ...places], given(line)),
+
+    // what is to be said of so many refused pairs.
+    refusedWords: (count) => sentence('page_refused_words', [BigInt(count)]),
   };
 }

@@ -1,5 +1,5 @@
 // What a run found, put into the page's elements. All text is put in as text.
-import { explainDifference, explainFault, faultWords, fieldSpan, seen } from './faults.js';
+import { explainDifference, explainFault, fieldSpan, seen } from './faults.js';
 import { pairAt, pairsIn, shownReport } from './report.js';
 import { entryWords, conclusionOf, windowWords } from './words.js';
 
@@ -21,7 +21,7 @@ const whole = (n) => n.toLocaleString('en');
 export function groundsOf(sorted, result, film) {
   return {
     whole: result.found, faces: film ? film.faces.length / 3 : 0,
-    offered: pairsIn(result.pairs), refused: pairsIn(result.refused), listed: result.report.entries.length,
+    offered: pairsIn(result.pairs), refused: pairsIn(result.refused), refusedWords: result.refusedWords, listed: result.report.entries.length,
     source: sorted.pairs ? sorted.pairs.name.split('/').pop() : 'the plan', again: Boolean(sorted.again),
   };
 }
@@ -65,7 +65,7 @@ export function showRefusals(list, rest, refused, faults) {
   list.replaceChildren(...Array.from({ length: shown }, (_, i) => {
     const [a, b] = pairAt(refused, i);
     const fault = faults[i];
-    return make('li', {}, make('b', {}, `Faces ${a} and ${b}`), ' ', fault ? `${faultWords(fault) || ''} ` : '', fault ? make('code', {}, fault.line) : '');
+    return make('li', {}, make('b', {}, `Faces ${a} and ${b}`), ' ', fault ? `${fault.words} ` : '', fault ? make('code', {}, fault.line) : '');
   }));
   const left = pairsIn(refused) - shown;
   rest.hidden = left === 0;

@@ -10,14 +10,15 @@ export const pairsCount = (n) => count(n, 'pair', 'pairs');
 // offered, refused   how many pairs were offered, and how many of these were refused
 // listed   how many tests are listed
 // source   what the pairs are called where they are the plan's own
+// refusedWords   what is said of these
 // again    they are the pairs that the run before refused
-export function conclusionOf({ whole, faces, offered, refused, listed, source, again = false }) {
+export function conclusionOf({ whole, faces, offered, refused, refusedWords, listed, source, again = false }) {
   if (whole && faces < 2) {
     return { kind: 'empty', main: 'The sheet has no two faces, so there was nothing to inspect.', more: [], notes: [] };
   }
   const notes = ['Nothing is said of film that passes through film already in the first frame.'];
   const scope = whole ? ofSheet(refused) : ofPairs(offered, refused, source);
-  const more = refused ? [`${count(refused, 'pair was', 'pairs were')} refused. Of ${refused === 1 ? 'it' : 'them'} nothing is said.`] : [];
+  const more = refused ? [refusedWords] : [];
   if (!whole) notes.unshift(again ? 'What the run before says of its other pairs stays.' : 'Of pairs that were not offered nothing is said here.');
   if (!scope) {
     const why = offered === 0 ? 'No pair was offered, so nothing is said.' : 'Every pair was refused, so nothing is said.';

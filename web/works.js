@@ -1,13 +1,18 @@
 // The work of a run, off the page's main thread: from files to a report. `tell` is called with what goes on.
+import { lineTold } from './faults.js';
 import { readReport, pairsIn } from './report.js';
 
 const OF_FRAMES = ['covered', 'refused', 'search fault', 'first fault', 'second fault', 'differ'];
 const EMPTY = new Uint8Array(0);
 
 // A job is { kind: 'frames', start, end } or { kind: 'plan', sheet, step, pairs }, where pairs may be null: then the near
-// pairs are found first.
+// pairs are found first. The result has its faults with their words.
 export function runJob(core, job, tell) {
-  return job.kind === 'frames' ? runFrames(core, job, tell) : runPlan(core, job, tell);
+  const result = job.kind === 'frames' ? runFrames(core, job, tell) : runPlan(core, job, tell);
+  const text = job.kind === 'plan' ? job.sheet : result.outcome === 'second fault' ? job.end : job.start;
+  for (const fault of result.report.faults) fault.words = core.words(fault, lineTold(fault, text));
+  const refused = pairsIn(result.refused);
+  return { ...result, refusedWords: refused ? core.refusedWords(refused) : '' };
 }
 
 export function runFrames(core, { start, end }, tell) {

@@ -143,7 +143,7 @@ def fault(bench):
     same("the report", bench.text(page, "#report"), report)
     holds("the fault is not shown", bench.seen(page, "#fault"))
     told = bench.text(page, "#fault")
-    for part in (report.strip(), "END.obj", "4", bad.strip()):
+    for part in (report.strip(), "END.obj", "4", bad.strip(), "The third field, “-x1 <b>”, is not a whole number"):
         holds(f"the fault does not tell {part!r}: {told}", part in told)
     same("the entries", entries(page), 0)
     # the first frame's fault comes first
@@ -151,7 +151,7 @@ def fault(bench):
     bench.drop(page, start, end)
     report, _ = bench.inspected(start, end)
     told = bench.text(page, "#fault")
-    for part in (report.strip(), "START.obj", "7", "f 1 2 9"):
+    for part in (report.strip(), "START.obj", "7", "f 1 2 9", "“9”, names no point above the line."):
         holds(f"the fault does not tell {part!r}: {told}", part in told)
     # what is inspected next has none
     bench.example(page)
@@ -207,6 +207,7 @@ def refused_pairs(bench):
     same("the report", bench.text(page, "#report"), report)
     holds("inspect refused nothing", "\nrefused 10 pairs\n" in report)
     holds("the refused pairs are not shown", bench.seen(page, "#refusals"))
+    holds("why they are refused is not told", bench.text(page, "#refused").count("A list had too little room left") == 10)
     holds("the conclusion does not tell them", "10" in bench.text(page, "#conclusion"))
     same("the entries", entries(page), report.count("\nVF ") + report.count("\nEE ") - 2)
     # in a run of their own none is refused

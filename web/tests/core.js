@@ -1,7 +1,7 @@
 // The lending of bytes, with a module that is none: a memory, and calls that read and write it as the module does.
 import { coreOf, FIRST_PAGE, makeCore } from '../core.js';
 import { runJob } from '../works.js';
-import { equal, holds, textBytes } from './harness.js';
+import { equal, holds, inModule, textBytes } from './harness.js';
 
 function pretended(calls, grow) {
   const memory = {
@@ -86,9 +86,24 @@ export const tests = [
     const { points, faces } = core.sheet(A, B);
     equal([points, faces], [Int16Array.of(1, -2, 3, 4, 5, -6), Uint16Array.of(7, 8, 4095)]);
   }],
-  ['the small step, in the module itself', async () => {
-    if (!globalThis.moduleBytes) return;
-    const core = await makeCore(await globalThis.moduleBytes());
+  ['words', () => {
+    const core = coreOf(pretended(({ read, write }) => ({
+      page_words(number, first, second, line, size, words, room) {
+        equal([number, first, second, read(line, size), room], [11, 2, 1, A, 512n]);
+        holds(Number(words) >= Number(line) + 3, 'the room lies behind the line');
+        write(words, textBytes('Words.'));
+        return 6n;
+      },
+      page_refused_words(count, words, room) {
+        equal([count, room], [3n, 512n]);
+        write(words, textBytes('\u2212'));
+        return 3n;
+      },
+    }), 'bigint'));
+    equal([core.words({ number: 11, places: [2, 1] }, A), core.refusedWords(3)], ['Words.', '\u2212']);
+  }],
+  ['the small step, in the module itself', inModule(async (bytes) => {
+    const core = await makeCore(bytes);
     const start = textBytes('v 0 0 0\nv 4 0 0\nv 0 4 0\nv 1 1 1\nv 1 1 9\nv 2 1 9\nf 1 2 3\nf 4 5 6\n');
     const end = textBytes('v 0 0 0\nv 4 0 0\nv 0 4 0\nv 1 1 -1\nv 1 1 9\nv 2 1 9\nf 1 2 3\nf 4 5 6\n');
     const doings = [];
@@ -104,5 +119,7 @@ export const tests = [
     equal([found.outcome, found.pairs, found.found, found.report.entries.length], ['covered', Uint8Array.of(0, 0, 1, 0), true, 1]);
     const bad = runJob(core, { kind: 'frames', start, end: textBytes('v 0 0 x\n') }, () => {});
     equal([bad.outcome, bad.text], ['second fault', 'fault 1 field 1 3\n']);
-  }],
+    holds(bad.report.lastFault.words.includes('\u201cx\u201d'), bad.report.lastFault.words);
+    equal([plan.report.faults[0].words, plan.refusedWords], ['Both faces of the pair are face 1.', '1 pair was refused. Of it nothing is said.']);
+  })],
 ];

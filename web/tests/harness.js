@@ -15,4 +15,7 @@ export function close(got, wanted, what = 'it', by = 1e-9) {
   holds(all[0].length === all[1].length && all[0].every((x, i) => Math.abs(x - all[1][i]) <= by), `${what}: ${shown(got)} is close to ${shown(wanted)}`);
 }
 
+// A test of the module, which is given its bytes. Where there is no module it says so, and passes.
+export const inModule = (test) => async () => (globalThis.moduleBytes ? test(await globalThis.moduleBytes()) : 'not tried, since no module is given');
+
 export const textBytes = (text) => new TextEncoder().encode(text);

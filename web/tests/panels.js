@@ -10,8 +10,8 @@ const film = { points: new Int16Array(36), faces: new Uint16Array(6) };
 
 export const tests = [
   ['what a conclusion rests on', () => {
-    const result = { found: true, pairs: new Uint8Array(8), refused: new Uint8Array(4), report: report('VF 3 0 1 2\n') };
-    equal(groundsOf({ kind: 'frames', pairs: undefined }, result, film), { whole: true, faces: 2, offered: 2, refused: 1, listed: 1, source: 'the plan', again: false });
+    const result = { found: true, pairs: new Uint8Array(8), refused: new Uint8Array(4), refusedWords: 'One.', report: report('VF 3 0 1 2\n') };
+    equal(groundsOf({ kind: 'frames', pairs: undefined }, result, film), { whole: true, faces: 2, offered: 2, refused: 1, refusedWords: 'One.', listed: 1, source: 'the plan', again: false });
     equal(groundsOf({ kind: 'plan', pairs: file('a/pairs.bin', '') }, { ...result, found: false }, film).source, 'pairs.bin');
   }],
   ['whose fault it is', () => {
@@ -26,7 +26,7 @@ export const tests = [
   }],
   ['a conclusion', inPage(() => {
     const [box, conclusion, notes] = [make('div', { hidden: true }), make('div'), make('div')];
-    showConclusion({ box, conclusion, notes }, { whole: true, faces: 2, offered: 1, refused: 1, listed: 0, source: 'the plan' });
+    showConclusion({ box, conclusion, notes }, { whole: true, faces: 2, offered: 1, refused: 1, refusedWords: 'One.', listed: 0, source: 'the plan' });
     equal([box.hidden, box.dataset.kind, conclusion.children.length, notes.children.length], [false, 'refused', 2, 1]);
   })],
   ['counts', inPage(() => {
@@ -46,9 +46,9 @@ export const tests = [
   })],
   ['refused pairs', inPage(() => {
     const list = make('ol'), rest = make('p');
-    showRefusals(list, rest, Uint8Array.of(7, 0, 8, 1), report('fault 21 offer 0 0\n').faults);
+    showRefusals(list, rest, Uint8Array.of(7, 0, 8, 1), [{ line: 'fault 21 offer 0 0', words: 'Its words.' }]);
     equal([list.children.length, rest.hidden], [1, true]);
-    holds(list.textContent.startsWith('Faces 7 and 264') && list.textContent.includes('fault 21 offer 0 0'), list.textContent);
+    equal(list.textContent, 'Faces 7 and 264 Its words. fault 21 offer 0 0');
     showRefusals(list, rest, new Uint8Array(4 * 1203), []);
     equal([list.children.length, rest.hidden, rest.textContent], [200, false, 'And 1,003 more: refused.bin has all.']);
   })],

@@ -9,8 +9,9 @@ let passed = 0, failed = 0;
 
 async function attempt(name, test) {
   try {
-    await test();
+    const said = await test();
     passed += 1;
+    if (said) console.log(`${name}: ${said}`);
   } catch (error) {
     failed += 1;
     console.log(`failed: ${name}: ${error.stack}`);

@@ -1,7 +1,7 @@
 import { entryWords, middleOf, partOf, pictureWords, timeWords, conclusionOf, whereWords, windowWords } from '../words.js';
 import { equal, holds } from './harness.js';
 
-const frames = { whole: true, faces: 200, offered: 1667, refused: 0, listed: 0, source: 'the plan' };
+const frames = { whole: true, faces: 200, offered: 1667, refused: 0, refusedWords: 'So many were refused.', listed: 0, source: 'the plan' };
 const plan = { ...frames, whole: false, source: 'pairs.bin' };
 const of = (grounds) => conclusionOf(grounds);
 const VF = { kind: 'VF', point: 3, face: 0, window: { first: 1, last: 2 } };
@@ -21,9 +21,8 @@ export const tests = [
   ['where pairs were refused the claim leaves them out', () => {
     const one = of({ ...frames, refused: 1 }), many = of({ ...frames, refused: 1200, listed: 5 });
     holds(one.main.includes('of every two faces of the sheet but the refused pair, whatever'), one.main);
-    equal(one.more, ['1 pair was refused. Of it nothing is said.']);
+    equal(one.more, ['So many were refused.']);
     holds(many.main.includes('of every two faces of the sheet but the refused pairs, whatever'), many.main);
-    equal(many.more, ['1,200 pairs were refused. Of them nothing is said.']);
   }],
   ['of a plan the claim is of its pairs alone', () => {
     equal(of(plan).main, 'Nothing is listed: of each of the 1,667 pairs of pairs.bin, whatever has no point in common stays apart at every fraction of the step.');
