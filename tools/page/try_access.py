@@ -50,6 +50,8 @@ REACH = """async (address) => {
   for (const [name, act] of Object.entries(tries)) await Promise.resolve().then(act).then(() => went.push(name), () => {});
   return went;
 }"""
+# by which a script could send: requests, connections, and addresses that the page is left for
+SENDS = re.compile(r"\b(?:fetch|XMLHttpRequest|WebSocket|EventSource|WebTransport|RTC\w+|sendBeacon|importScripts|open)\b *\(|\b(?:location|href|src|action) *=[^=]|\blocation\.(?:assign|replace)")
 INJECT = """async () => {
   const put = (tag, more) => { const it = Object.assign(document.createElement(tag), more); document.body.append(it); return it; };
   const tries = {
@@ -180,6 +182,7 @@ def network(bench):
     bench.close(page)
     text = re.sub(r"[A-Za-z0-9+/=]{200,}", "", bench.html.read_text())
     same("addresses in the page", re.findall(r"(?:https?|wss?|ftp)://[^'\"` <]*", text), [])
+    same("what in it could send", SENDS.findall(text), [])
     same("what it links to", re.findall(r"<(?:link|iframe|object|embed|base|form|img)\b[^>]*|<[^>]*\bsrc=[^>]*", text), [])
 
 
