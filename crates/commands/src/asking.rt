@@ -1,5 +1,5 @@
 // What a program is asked for.
-ghost use Rattle.std.specs.Prelude.{◌≡◌, ◌≤◌, IfOk, IfErr, vec_len};
+ghost use Rattle.std.specs.Prelude.{◌≡◌, ◌≢◌, ◌≤◌, All, IfSome, IfOk, IfErr, IsFalse, string_len, vec_len};
 
 use crate::words::{Asked, Given, read_words};
 use files::tell;
@@ -26,6 +26,8 @@ pub fn given(rt: &HostRuntime, about: &About) -> Result<Given, u8>
     ensures status { IfErr result (λ status. status ≤ 1) }
     ensures count { IfOk result (λ g. about.now.least ≤ vec_len g.operands) }
     ensures few { IfOk result (λ g. vec_len g.operands ≤ about.now.most) }
+    ensures operands { IfOk result (λ g. All (λ w. string_len w ≢ 0) g.operands.items) }
+    ensures refused { IfOk result (λ g. IfSome g.refused (λ w. string_len w ≢ 0)) }
 {
     let words = match env::args(rt) {
         Ok(words) => words,
@@ -36,6 +38,9 @@ pub fn given(rt: &HostRuntime, about: &About) -> Result<Given, u8>
             let count = given.operands.len();
             if count < about.least || count > about.most {
                 return Err(told_usage(rt, about));
+            }
+            if has_empty(&given) {
+                return Err(told_empty(rt));
             }
             Ok(given)
         }
@@ -80,8 +85,25 @@ fn untold(rt: &HostRuntime, reason: io::Error) -> u8
     1
 }
 
+/// Whether a word names nothing, since it is empty.
+fn has_empty(given: &Given) -> bool
+    ensures operands { IsFalse result → All (λ w. string_len w ≢ 0) given.now.operands.items }
+    ensures refused { IsFalse result → IfSome given.now.refused (λ w. string_len w ≢ 0) }
+{
+    let refused = given.refused.as_ref();
+    given.operands.iter().any(|word| word.is_empty()) || refused.is_some_and(|word| word.is_empty())
+}
+
+fn told_empty(rt: &HostRuntime) -> u8
+    ensures { result ≡ 1 }
+{
+    let reason = "one is empty, and names no file and no folder";
+    tell(rt, "arguments", reason);
+    1
+}
+
 /// Tells that there is not enough memory.
-pub fn out_of_memory(rt: &HostRuntime) -> u8
+fn out_of_memory(rt: &HostRuntime) -> u8
     ensures { result ≡ 1 }
 {
     tell(rt, "memory", "out of memory");

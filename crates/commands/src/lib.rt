@@ -4,5 +4,5 @@
 mod asking;
 mod words;
 
-pub use asking::{About, given, out_of_memory};
+pub use asking::{About, given};
 pub use words::Given;

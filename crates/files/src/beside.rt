@@ -1,7 +1,9 @@
 // A file that is written beside the one whose place it is to take.
 use crate::printing::Held;
+use crate::targets::{Target, part_of};
 use std::fs::File;
 use std::io::ErrorKind;
+use std::path::PathBuf;
 use std::{fs, io};
 
 /// A file that is written, and removed again unless it is kept.
@@ -16,19 +18,22 @@ pub(crate) struct Beside {
 #[derive(Drop)]
 struct Renaming {
     from: String,
-    to: String,
+    to: PathBuf,
 }
 
 impl Beside {
-    /// Opens a file beside the one at a path. What is no plain file is written itself.
+    /// Opens a file beside the one at a path, with the mode of that one if it is there. What is no
+    /// plain file is written itself.
     pub(crate) fn open(rt: HostRuntime, path: &str) -> io::Result<Beside> {
         let held = Held::new(rt.alloc())?;
-        match fs::metadata(&rt, path) {
-            Ok(found) if found.is_file() => {
-                let path = fs::canonicalize(&rt, path)?;
-                Beside::create(rt, path.as_str(), held)
+        match Target::at(&rt, path)? {
+            Target::Plain(to, found) => {
+                let beside = Beside::create(rt, to, held)?;
+                beside.file.set_permissions(found.permissions())?;
+                Ok(beside)
             }
-            Ok(_) => {
+            Target::New(to) => Beside::create(rt, to, held),
+            Target::Other => {
                 let file = File::options().write(true).open(&rt, path)?;
                 Ok(Beside {
                     rt,
@@ -37,14 +42,11 @@ impl Beside {
                     renaming: None,
                 })
             }
-            Err(e) if e.kind() == ErrorKind::NotFound => Beside::create(rt, path, held),
-            Err(e) => Err(e),
         }
     }
 
-    fn create(rt: HostRuntime, path: &str, held: Held) -> io::Result<Beside> {
-        let from = format!(in rt.alloc(); "{path}.part")?;
-        let to = String::from_str(rt.alloc(), path)?;
+    fn create(rt: HostRuntime, to: PathBuf, held: Held) -> io::Result<Beside> {
+        let from = part_of(rt.alloc(), to.as_str())?;
         match File::create_new(&rt, from.as_str()) {
             Ok(file) => Ok(Beside {
                 rt,

@@ -10,6 +10,7 @@ mod on_disk;
 mod printing;
 mod progress;
 mod reading;
+mod targets;
 
 pub use disks::Disk;
 pub use failures::{Failure, Site, tell};
@@ -17,3 +18,4 @@ pub use lasts::Last;
 pub use machines::Machine;
 pub use on_disk::{FilePaths, OnDisk, site_name};
 pub use progress::Watched;
+pub use targets::may_store;

@@ -3,7 +3,7 @@ ghost use Rattle.std.specs.Prelude.{◌≡◌, ◌≤◌, length, IfOk};
 
 use crate::paths::Paths;
 use crate::runs::pair_on_disk;
-use files::{Machine, OnDisk, site_name, tell};
+use files::{Machine, OnDisk, may_store, site_name, tell};
 use near_faces::Pair;
 use pairing::{PAIR_BYTES, PAIR_LIMIT, Tables};
 use plans::status;
@@ -23,6 +23,10 @@ pub fn pair_folder(rt: &HostRuntime, folder: &str) -> u8
         tell(rt, "memory", "out of memory");
         return 1;
     };
+    let inputs = [paths.plan.sheet.as_str(), paths.plan.step.as_str()];
+    if !may_store(rt, paths.plan.pairs.as_str(), &inputs) {
+        return 1;
+    }
     let mut tables = Tables::new();
     let disk = match Machine::new(*rt, None) {
         Ok(disk) => disk,

@@ -3,7 +3,7 @@ ghost use Rattle.std.specs.Prelude.{◌≤◌};
 
 use crate::paths::Paths;
 use crate::runs::{inspect_on_disk, status};
-use files::{Machine, OnDisk, Watched, site_name, tell};
+use files::{FilePaths, Machine, OnDisk, Watched, may_store, site_name, tell};
 use printout::{PlanFile, Tables};
 
 /// What is told on a terminal: how many pairs are done.
@@ -22,6 +22,12 @@ pub fn inspect_folder(rt: &HostRuntime, folder: &str, refused: Option<String>) -
         tell(rt, "memory", "out of memory");
         return 1;
     };
+    let inputs = [paths.path(PlanFile::Sheet), paths.path(PlanFile::Step)];
+    if let Some(target) = paths.target()
+        && !may_store(rt, target, &inputs)
+    {
+        return 1;
+    }
     let disk = match Machine::new(*rt, Some(PAIRS)) {
         Ok(disk) => disk,
         Err(failure) => {

@@ -3,7 +3,7 @@ ghost use Rattle.std.specs.Prelude.{◌≤◌};
 
 use crate::paths::Paths;
 use crate::runs::{record_on_disk, status};
-use files::{FilePaths, Machine, OnDisk, site_name, tell};
+use files::{FilePaths, Machine, OnDisk, may_store, site_name, tell};
 use frames::{Recording, Tables};
 
 /// Records the step between two frames: the exit status. What stops the run is told, and the frame
@@ -11,6 +11,10 @@ use frames::{Recording, Tables};
 pub fn record_frames(rt: &HostRuntime, paths: Paths) -> u8
     ensures { result ≤ 1 }
 {
+    let inputs = [paths.start.as_str(), paths.end.as_str()];
+    if !may_store(rt, paths.step.as_str(), &inputs) {
+        return 1;
+    }
     let disk = match Machine::new(*rt, None) {
         Ok(disk) => disk,
         Err(failure) => {
