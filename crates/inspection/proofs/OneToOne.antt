@@ -1,8 +1,8 @@
 -- Slips out and entries taken agree one to one, over every run.
-use Rattle.std.proofs.Common.{◌≡◌, ℕ, zero, suc, ◌+◌, ◌-◌, ◌<◌, Bool, true, false, cond, ◌&&◌, eqb, count_by, List, [], ◌∷◌, ◌++◌, length, set, replicate, Ok, Err, Result, refl, sym, ap, ◌∙◌, subst, arith, ⊎_elim, eqb-true, eq-eqb, ne_eqb, length-append}
+use Rattle.std.proofs.Common.{◌≡◌, ℕ, zero, suc, ◌+◌, ◌-◌, ◌<◌, Bool, true, false, cond, ◌&&◌, eqb, count_by, List, [], ◌∷◌, ◌++◌, length, get_or, set, replicate, Contains, IsOk, Ok, Err, Result, refl, sym, ap, ◌∙◌, subst, arith, ⊎_elim, eqb-true, eq-eqb, ne_eqb, length-append}
 use Rattle.std.proofs.lemmas.Bool.{false≢true, cases_eq, cond-true, cond-false, leb-false, not-false}
 use Rattle.std.proofs.lemmas.List.{get_or-set_same, get_or-set_other, length-set, length-replicate}
-use Rattle.std.proofs.lemmas.List.Sums.{sum_by_push, sum_by-append, sum_by-cons, sum_by-set}
+use Rattle.std.proofs.lemmas.List.Sums.{sum_by_push, sum_by-append, sum_by-cons, sum_by-set, get_or-le-sum_by}
 use Rattle.sheet.proofs.FirstFit.{none_fits}
 use Rattle.sheet.specs.declared.drafts.Draft.{Draft}
 use Rattle.motion.specs.declared.shapes.Shape.{Shape}
@@ -17,7 +17,7 @@ use Rattle.inspection.specs.declared.slips.RefusedSlip.{RefusedSlip}
 use Rattle.inspection.specs.declared.slips.Slip.{Slip}
 use Rattle.inspection.specs.Lists.{Contents, grown_to}
 use Rattle.inspection.specs.Marks.{mark_at, is_free, is_taken, is_taken_by}
-use Rattle.inspection.specs.Slips.{Lists, marks_in, mark_of, slip_for, taking_checks, return_checks, Takes, HandsInAt, out_after_taking, out_after_return, same_kind, is_slip_of, is_slip_for, OneToOne}
+use Rattle.inspection.specs.Slips.{Lists, marks_in, mark_of, slip_for, taking_checks, return_checks, Takes, HandsInto, HandsIn, HandsInAt, out_after_taking, out_after_return, same_kind, is_slip_of, is_slip_for, OneToOne}
 use Rattle.inspection.specs.Classes.{rules_at}
 use Rattle.inspection.specs.Tallies.{no_tests}
 use Rattle.inspection.specs.Offerings.{Offering}
@@ -188,6 +188,47 @@ module _ (l : Kind) (before after : List Slip) (x : Slip) (is : x.list ≡ l) (h
         vf = fits_vf (before ++ (x ∷ after)) s kept x.entry (mark_of how) l;
         ee = fits_ee (before ++ (x ∷ after)) s kept x.entry (mark_of how) l;
       }
+
+-- ---- whichever slip is out is accepted
+-- it is one of its own entry and reviewer, so he has taken that entry
+his_own : (x : Slip) → is_slip_for x.list x.entry x.reviewer x ≡ true
+his_own x = same x.list
+  where
+    same : (l : Kind) → (same_kind l l && eqb x.entry x.entry && eqb x.reviewer x.reviewer) ≡ true
+    same Vf = λ i. eq-eqb x.entry x.entry refl i && eq-eqb x.reviewer x.reviewer refl i
+    same Ee = λ i. eq-eqb x.entry x.entry refl i && eq-eqb x.reviewer x.reviewer refl i
+
+some_taken : (b : Bool) → 0 < cond b 1 0 → b ≡ true
+some_taken true h = refl
+some_taken false h = absurd (omega arith)
+
+still_his : (out : List Slip) (s : Lists) (x : Slip) → OneToOne out s → Contains out x
+    → is_taken_by x.reviewer (mark_at (marks_in x.list s) x.entry) ≡ true
+still_his out s x agree (k, inside, there) =
+    let p : Slip → ℕ = λ y. cond (is_slip_for x.list x.entry x.reviewer y) 1 0 in
+    let one : p (get_or out k x) ≡ 1 = ap p there ∙ ap (λ (b : Bool). cond b 1 0) (his_own x) in
+    some_taken _ (omega (arith, one, get_or-le-sum_by p out k x inside, agree x.list x.entry x.reviewer))
+
+-- past the last entry nothing is taken
+within : (ms : List Mark) (i q : ℕ) → is_taken_by q (mark_at ms i) ≡ true → i < length ms
+within [] i q e = absurd (false≢true e)
+within (m ∷ ms) zero q e = omega arith
+within (m ∷ ms) (suc i) q e = omega (arith, within ms i q e)
+
+accepted_if : (x : Slip) {E : Type 0} (how : Handed) (g : Contents E) (r : Result (Unit {0}) RefusedSlip) (h : Contents E)
+    → length g.marks ≡ length g.entries → is_taken_by x.reviewer (mark_at g.marks x.entry) ≡ true → HandsInto x how g r h → IsOk r
+accepted_if x how g (Ok u) h fits his p = refl
+accepted_if x how g (Err e) h fits his p =
+    let inside : x.entry < length g.entries = omega (arith, fits, within g.marks x.entry x.reviewer his) in
+    absurd (grind (arith, p.fault, inside, his))
+
+accepted_at : (l : Kind) (x : Slip) (how : Handed) (out : List Slip) (s : Lists) (r : Result (Unit {0}) RefusedSlip) (t : Lists)
+    → Kept out s → is_taken_by x.reviewer (mark_at (marks_in l s) x.entry) ≡ true → HandsInAt l x how s r t → IsOk r
+accepted_at Vf x how out s r t kept his p = accepted_if x how s.vf r t.vf kept.vf his p.0
+accepted_at Ee x how out s r t kept his p = accepted_if x how s.ee r t.ee kept.ee his p.0
+
+pub accepted_back : (out : List Slip) (s : Lists) → Kept out s → (x : Slip) → Contains out x → (how : Handed) (r : Result (Unit {0}) RefusedSlip) (t : Lists) → HandsIn x how s r t → IsOk r
+accepted_back out s kept x there how r t p = accepted_at x.list x how out s r t kept (still_his out s x kept.agree there) p
 
 -- ---- each call
 after_taking : (l : Kind) (k r : ℕ) (out : List Slip) (s : Lists) (x : Result Slip TakingFault) (t : Lists) → Kept out s → Takes l k r s x t → Kept (out_after_taking out x) t
