@@ -1,1 +1,2 @@
 pub mod ByHand
+pub mod Meanwhile

@@ -2,17 +2,22 @@
 ghost use Rattle.std.specs.Prelude.{◌≡◌, ◌↔◌, IsNone, IsSome, IfNone, IfSome};
 ghost use Rattle.inspection.specs.declared.offerings.Offering.TheVariants.{Faces};
 ghost use Rattle.inspection.specs.Lists.{contents_of, without_entries};
-ghost use Rattle.inspection.specs.States.{state_of, state_at_start};
+ghost use Rattle.inspection.specs.Slips.{lists_of};
+ghost use Rattle.inspection.specs.States.{core_of, state_of, state_at_start};
 ghost use Rattle.inspection.specs.Offers.{OfferCall};
-ghost use Rattle.own_filter.specs.ByHand.{fault_of_offer, Offered};
+ghost use Rattle.own_filter.specs.ByHand.{fault_of_offer, counts_in, HandsBack, OfferedMeanwhile, Offered};
 
 use filters::Filter;
-use inspection::{Counts, EeName, Inspection, List, OfferFault, Offering, VfName};
+use inspection::{
+    Counts, EeName, Handed, Inspection, List, OfferFault, Offering, RefusedSlip, Slip, TakingFault,
+    VfName,
+};
+use motion::Kind;
 use report::report;
 use sheet::{Draft, Face, Point};
 
 /// Offers two faces at depth 2, is refused twice, sets the depth to 3, asks for a window and for the
-/// report, and offers them the other way round.
+/// report, and offers them the other way round while a reviewer has the first entry.
 ///
 /// The counts, or none where the first offer is refused. With them and the lists comes the whole
 /// claim, from the contracts of these calls and nothing else of the inspection.
@@ -48,8 +53,8 @@ pub fn inspect_by_hand<F: Filter + Drop>(
     let _ = inspection.window(points, faces, vf, 0);
     let mut output = [0; 96];
     let _ = report(&inspection, points, faces, vf, ee, &mut output);
-    let _ = offer_turned(&mut inspection, points, faces, vf, ee, first, second);
-    Some(inspection.findings(vf, ee))
+    let (_, counts) = offer_meanwhile(&mut inspection, points, faces, vf, ee, first, second);
+    Some(counts)
 }
 
 /// Opens at depth 2, which is never refused.
@@ -118,6 +123,33 @@ fn offer_in_vain<F: Filter>(
     let _ = inspection.offer(points, short, vf, ee, Offering::Faces(first, second));
 }
 
+/// Offers two faces the other way round while reviewer 1 has the first entry of the VF list, if there
+/// is one that is free. It is handed in as seen: the answer to the offer, and the counts.
+///
+/// Whatever the calls answer, a run with no slip out goes on as one with no slip out, and has the
+/// whole claim.
+fn offer_meanwhile<F: Filter>(
+    inspection: &mut Inspection<F>,
+    points: &[Point],
+    faces: &[Face],
+    vf: &mut List<'_, VfName>,
+    ee: &mut List<'_, EeName>,
+    first: u16,
+    second: u16,
+) -> (Result<(), OfferFault>, Counts)
+    ensures offered { OfferedMeanwhile (F.Filter.struck inspection.old.filter) points.now faces.now
+        (Faces second first) (state_of inspection.old vf.old ee.old) result.0
+        (state_of inspection.new vf.new ee.new) }
+    ensures counts { result.1 ≡ counts_in (core_of inspection.new) }
+    ensures filter { inspection.new.filter ≡ inspection.old.filter }
+{
+    let slip = Slip::take(Kind::Vf, 0, 1, vf, ee);
+    let answer = offer_turned(inspection, points, faces, vf, ee, first, second);
+    let _ = inspection.slips_out(vf, ee);
+    hand_back(slip, vf, ee);
+    (answer, inspection.findings(vf, ee))
+}
+
 /// Offers two faces the other way round.
 fn offer_turned<F: Filter>(
     inspection: &mut Inspection<F>,
@@ -134,4 +166,17 @@ fn offer_turned<F: Filter>(
     ensures filter { inspection.new.filter ≡ inspection.old.filter }
 {
     inspection.offer(points, faces, vf, ee, Offering::Faces(second, first))
+}
+
+/// Hands in a slip that was given, as seen. One that were refused would end here.
+fn hand_back(slip: Result<Slip, TakingFault>, vf: &mut List<'_, VfName>, ee: &mut List<'_, EeName>)
+    ensures { HandsBack slip (lists_of vf.old ee.old) (lists_of vf.new ee.new) }
+{
+    match slip {
+        Ok(slip) => match slip.hand_in(Handed::Seen, vf, ee) {
+            Ok(()) => {}
+            Err(RefusedSlip { slip, fault: _ }) => slip.void(),
+        },
+        Err(_) => {}
+    }
 }
