@@ -292,13 +292,13 @@ module _ (f : Mark → Sight) where
       unfolding window_checks
       window-same r r' v w =
           let moved : WindowAnswer n ps fs c (with_marks_of g h) i set r = record { fault = v.fault; value = v.value; meaning = v.meaning } in
-          window-settled set ps fs n d h i r' r w (subst₂ (λ (x : Core) (y : Contents E). WindowAnswer n ps fs x y i set r) core (only-marks g h same) moved)
+          window-settled set set ps fs n d h i (λ e. refl) r' r w (subst₂ (λ (x : Core) (y : Contents E). WindowAnswer n ps fs x y i set r) core (only-marks g h same) moved)
 
       earliest-same : (r r' : Result Earliest WindowFault) → EarliestAnswer n ps fs c g i set r → EarliestAnswer n ps fs d h i set r' → r ≡ r'
       unfolding window_checks
       earliest-same r r' v w =
           let moved : EarliestAnswer n ps fs c (with_marks_of g h) i set r = record { fault = v.fault; value = v.value; window = v.window; meaning = v.meaning } in
-          earliest-settled set ps fs n d h i r' r w (subst₂ (λ (x : Core) (y : Contents E). EarliestAnswer n ps fs x y i set r) core (only-marks g h same) moved)
+          earliest-settled set set ps fs n d h i (λ e. refl) r' r w (subst₂ (λ (x : Core) (y : Contents E). EarliestAnswer n ps fs x y i set r) core (only-marks g h same) moved)
 
     -- a question leaves both as they were
     left : (s s' t t' : State) → SameBy s s' → t ≡ s → t' ≡ s' → SameBy t t'

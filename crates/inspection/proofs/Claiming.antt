@@ -1,13 +1,12 @@
 -- The claim, for every set that keeps the laws.
-use Rattle.std.proofs.Common.{◌≡◌, ◌⊎◌, ℕ, zero, suc, ◌+◌, ◌<◌, ◌≤◌, Bool, true, false, ◌&&◌, List, All, Any, get_or, length, sym, refl, ◌∙◌, inl, inr, ⊎_elim, subst, arith}
+use Rattle.std.proofs.Common.{◌≡◌, ◌⊎◌, ℕ, ◌+◌, ◌<◌, ◌≤◌, Bool, true, false, List, All, Any, get_or, length, sym, refl, ◌∙◌, inl, inr, ⊎_elim, subst, arith}
 use Rattle.std.proofs.lemmas.Bool.{cases_Bool, both_ways, false_from_ne_true}
 use Rattle.std.proofs.lemmas.Option.{slice_get_within, slice_get-get_or, slice_get_read, get_or_from_slice_get}
 use Rattle.sheet.specs.declared.drafts.Draft.{Draft}
 use Rattle.motion.specs.declared.shapes.Shape.{Shape}
-use Rattle.motion.specs.Laws.{Lawful, Valid, Apart, half}
+use Rattle.motion.specs.Laws.{Lawful, Apart}
 use Rattle.motion.specs.Depths.{struck_at, Struck}
-use Rattle.motion.proofs.Subintervals.{valid-first, valid-last}
-use Rattle.motion.proofs.DepthLaws.{struck, struck-whole, struck-step}
+use Rattle.motion.proofs.DepthLaws.{struck}
 use Rattle.inspection.specs.declared.classes.Tally.{Tally}
 use Rattle.inspection.specs.declared.slips.Slip.{Slip}
 use Rattle.motion.specs.declared.shapes.Kind.TheVariants.{Vf, Ee}
@@ -19,19 +18,10 @@ use Rattle.inspection.specs.Lists.{has}
 use Rattle.inspection.specs.States.{State}
 use Rattle.inspection.specs.Runs.{Accepted, Run}
 use Rattle.inspection.specs.Claims.{Before, PassedAt, ClaimOfKind, Agree, MatchesOffers, Covers, Claim}
+use Rattle.inspection.proofs.Agreeing.{struck_agree}
 use Rattle.inspection.proofs.NamingLaws.{NamingLaws, alike, vf_laws, ee_laws}
 use Rattle.inspection.proofs.Gathering.{At, at-all, Upto, listing, gathered, passed-as}
 use Rattle.inspection.proofs.Moments.{KindSoFar, OfferFacts, moment}
-
--- ---- sets that agree on every test strike the same tests at each depth
-module _ (set set' : Shape → Bool) (same : Agree set set') where
-  agreed : (d : ℕ) (t : Shape) → Valid t → t.scale + d ≤ 6 → struck_at set' d t ≡ struck_at set d t
-  agreed zero t v k = struck-whole set' t ∙ same t v ∙ sym (struck-whole set t)
-  agreed (suc d) t v k =
-      let c : t.scale ≤ 5 = omega arith in
-      let x = agreed d (half 0 t) (valid-first t v c) (omega arith) in
-      let y = agreed d (half 1 t) (valid-last t v c) (omega arith) in
-      struck-step set' d t ∙ (λ i. x i && y i) ∙ sym (struck-step set d t)
 
 -- ---- what the tests of one kind and their list owe, at the end of a run
 never : (i j : ℕ) → Before i j i j → ⊥
@@ -96,7 +86,7 @@ module _ {E : Type 0} (n : Naming E) (each : ℕ) (sheet : Sheet) (named : Namin
         let here : At h k p = slice_get_read h (length h) k p refl a (sym is) in
         let low = fits x w.offer.depth (at-all (OfferFacts sheet) other i w.offer facts' w.accepted).shallow in
         let near = (at-all (OfferFacts sheet) h k p facts here).near in
-        let passed : struck_at set w.offer.depth (n.shape sheet x) ≡ false = sym (agreed set set' same w.offer.depth (n.shape sheet x) (named.valid near x) low) ∙ w.passed in
+        let passed : struck_at set w.offer.depth (n.shape sheet x) ≡ false = sym (struck_agree set set' same w.offer.depth (n.shape sheet x) (named.valid near x) low) ∙ w.passed in
         ⊎_elim (λ s. absurd (both_ways (struck_at set w.offer.depth (n.shape sheet x)) passed (s.deeper w.offer.depth deep low))) (λ l. l e w.same)
         (judged k l p x here (slice_get_read (n.tests sheet p.what) (length (n.tests sheet p.what)) l x refl d (sym at)) w.unshared)
 

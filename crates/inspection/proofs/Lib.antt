@@ -4,6 +4,7 @@ pub mod Working
 pub mod Inside
 pub mod NamingLaws
 pub mod Gathering
+pub mod Agreeing
 pub mod Moments
 pub mod OneToOne
 pub mod Claiming

@@ -1,6 +1,5 @@
 -- What holds at every moment of a run.
-use Rattle.std.proofs.Common.{◌≡◌, ℕ, ◌+◌, ◌*◌, ◌≤◌, Bool, true, not, cond, ◌&&◌, count_by, nat_lt, List, [], ◌∷◌, ◌++◌, All, length, take, get_or, map, Result, Ok, Err, sym, refl, ap, ◌∙◌, subst, ltb-false, length-append, length-take-le, arith}
-use Rattle.std.proofs.Math.ListN.{get_or-map}
+use Rattle.std.proofs.Common.{◌≡◌, ℕ, ◌+◌, ◌*◌, ◌≤◌, Bool, true, not, cond, ◌&&◌, count_by, nat_lt, List, [], ◌∷◌, ◌++◌, All, length, take, map, Result, Ok, Err, sym, refl, ap, ◌∙◌, subst, ltb-false, length-append, length-take-le, arith}
 use Rattle.std.proofs.lemmas.List.Sums.{fold_push, sum_by_push, sum_by-cons}
 use Rattle.std.proofs.lemmas.List.Elements.{All-nil, All-push}
 use Rattle.std.proofs.lemmas.List.{length-map, length_push}
@@ -25,7 +24,7 @@ use Rattle.motion.specs.declared.shapes.Kind.{Kind}
 use Rattle.motion.specs.declared.shapes.Kind.TheVariants.{Vf, Ee}
 use Rattle.inspection.specs.Tallies.{no_tests, total, with_one_more, sum_of, tally_in}
 use Rattle.inspection.specs.Offerings.{Offering, Faces}
-use Rattle.inspection.specs.Sheets.{Sheet, sheet_in, moving_of, nowhere, point_at}
+use Rattle.inspection.specs.Sheets.{Sheet, sheet_in, moving_of, point_at}
 use Rattle.inspection.specs.Tests.{Naming, vf_naming, ee_naming}
 use Rattle.inspection.specs.Classes.{Rules, rules_at, class_of, entries_after_one, entries_after, tally_after}
 use Rattle.inspection.specs.States.{Core, State, lists_in}
@@ -33,7 +32,7 @@ use Rattle.inspection.specs.Offers.{entries_by, tally_by, state_after, offer_che
 use Rattle.inspection.specs.Runs.{depth_checks, Accepted, Brings, Run}
 use Rattle.inspection.specs.Runs.Run.{opened, depth_set, offered, taken, handed_in, asked}
 use Rattle.inspection.specs.Claims.{CountsOfKind, how_many, OfSheet}
-use Rattle.inspection.proofs.Coordinates.{in_reach}
+use Rattle.inspection.proofs.Coordinates.{points_near}
 use Rattle.inspection.proofs.NamingLaws.{NamingLaws, vf_laws, ee_laws}
 use Rattle.inspection.proofs.Gathering.{listing}
 
@@ -95,7 +94,7 @@ offer_facts set s ps fs (Faces f g) low (a, (b, (c, (d, (e, (k, r)))))) =
     let lf : length (take dr.faces fs) ≡ dr.faces = length-take-le dr.faces fs (ltb-false _ _ p.1) in
     record {
       shallow = low;
-      near = λ i. in_reach (get_or (take dr.points ps) i nowhere) (point_at (sheet_in dr ps fs) i) (get_or-map moving_of (take dr.points ps) i nowhere);
+      near = points_near (take dr.points ps) (take dr.faces fs);
       of_sheet = record {
         first = omega (arith, lf, leb-false dr.faces f b);
         second = omega (arith, lf, leb-false dr.faces g c);

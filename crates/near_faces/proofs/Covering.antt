@@ -1,6 +1,5 @@
 -- Offered all, the near pairs cover the whole sheet: faces whose boxes do not meet stay apart.
-use Rattle.std.proofs.Common.{◌≡◌, ℕ, ◌<◌, Bool, true, false, List, [], get_or, take, length, refl, ◌∙◌, inr, ⊎_elim, All, Contains, arith}
-use Rattle.std.proofs.Math.ListN.{get_or-map as get_or-map_default}
+use Rattle.std.proofs.Common.{◌≡◌, ℕ, ◌<◌, Bool, true, false, List, [], take, length, refl, ◌∙◌, inr, ⊎_elim, All, Contains, arith}
 use Rattle.std.specs.Prelude.{IsFalse, Any}
 use Rattle.std.proofs.lemmas.Bool.{cases_Bool, cases_lt}
 use Rattle.std.proofs.lemmas.List.{length-map, get_or-map}
@@ -19,12 +18,12 @@ use Rattle.inspection.specs.Claims.{Claim}
 use Rattle.inspection.specs.Lists.{has}
 use Rattle.inspection.specs.Offerings.{SameOffering}
 use Rattle.inspection.specs.Runs.{Accepted}
-use Rattle.inspection.specs.Sheets.{Sheet, moving_of, nowhere, no_face, point_at, face_at, sheet_in}
+use Rattle.inspection.specs.Sheets.{Sheet, no_face, point_at, face_at, sheet_in}
 use Rattle.inspection.specs.States.{Core}
 use Rattle.inspection.specs.Tests.{Naming, vf_naming, ee_naming}
 use Rattle.inspection.proofs.NamingLaws.{NamingLaws, alike, vf_laws, ee_laws}
 use Rattle.inspection.proofs.Claiming.{claim}
-use Rattle.inspection.proofs.Coordinates.{in_reach}
+use Rattle.inspection.proofs.Coordinates.{points_near}
 use Rattle.near_faces.specs.Boxes.{box_around, corners, swept_box, swept_boxes, meets}
 use Rattle.near_faces.specs.Near.{pair, near_pairs, Near}
 use Rattle.near_faces.specs.Covering.{AllApart, WholeSheetApart, HasAll, FarApart, CoversSheet}
@@ -98,8 +97,7 @@ module _ (s : Sheet) (reach : (k : ℕ) → InReach 0 (point_at s k)) where
 pub covering : (d : Draft) (ps : List Point) (fs : List Face) → CoversSheet d (sheet_in d ps fs) (near_pairs (sheet_in d ps fs))
 covering d ps fs =
     let s = sheet_in d ps fs in
-    let points = take d.points ps in
-    let reach = λ (k : ℕ). in_reach (get_or points k nowhere) (point_at s k) (get_or-map_default moving_of points k nowhere) in
+    let reach = points_near (take d.points ps) (take d.faces fs) in
     record {
       runs = λ set law history out t run has_all. whole_sheet s reach set d history t.core t.vf.entries t.ee.entries (claim law d s history out t run) has_all;
       claims = λ set history core vfs ees c has_all. whole_sheet s reach set d history core vfs ees c has_all;

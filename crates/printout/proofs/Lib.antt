@@ -1,3 +1,4 @@
+pub mod Alike
 pub mod FileByFile
 pub mod FileOfPairs
 pub mod InMemory

@@ -10,7 +10,7 @@ use Rattle.sheet.specs.declared.rows.Face.{Face}
 use Rattle.step.specs.Laying.{lay_checks, with_ends}
 use Rattle.motion.specs.declared.shapes.Shape.{Shape}
 use Rattle.motion.specs.Rows.{delivered}
-use Rattle.inspection.specs.Claims.{Claim}
+use Rattle.inspection.specs.Claims.{Agree, Claim}
 use Rattle.inspection.specs.Sheets.{Sheet, sheet_of}
 use Rattle.printout.specs.PairBytes.{offerings_in}
 use Rattle.report.specs.Reports.{View, report_text}
@@ -96,10 +96,10 @@ printout_by p n = printed_by delivered p n
 abbrev pub printout : Plan → Printout
 printout p = printout_by p (fault p)
 
--- whatever filter strikes the same, by it the same is printed and stored
+-- whatever filter of a set that agrees, by it the same is printed and stored
 abbrev pub PrintsAlike : Plan → Type 0
 PrintsAlike p =
-    (other : Shape → Bool) → ((t : Shape) → other t ≡ delivered t)
+    (other : Shape → Bool) → Agree delivered other
     → printed_by other p (fault p) ≡ printout p
 
 -- ---- which files are needed, where the pairs come in so many pieces; after a fault no more

@@ -1,13 +1,12 @@
 use Rattle.std.proofs.Common.{rules}
 use Rattle.printout.specs.Memory.{plan}
-use Rattle.printout.specs.Plans.{fault, printed_by, printout}
+use Rattle.printout.specs.Plans.{printout}
+use Rattle.printout.proofs.Alike.{prints_alike}
 use Rattle.printout.proofs.InMemory.{settled_onto}
 use Rattle.printout.proofs.memory.inspect_bytes.Goals as goal
 
 pub returns-clause-alike : goal.returns-clause-alike
-returns-clause-alike c =
-    let p = plan c.args.sheet.now c.args.step.now c.args.pairs.now in
-    λ other same. λ i. printed_by (λ t. same t i) p (fault p)
+returns-clause-alike c = prints_alike (plan c.args.sheet.now c.args.step.now c.args.pairs.now)
 
 pub returns-clause-settles : goal.returns-clause-settles
 returns-clause-settles c =

@@ -34,8 +34,9 @@ returns-clause-alike g c =
     let a = c.args in
     let l = c.loop-i in
     let n : l.i ≡ c.min-n.result = omega arith in
+    let k : a.depth ≤ 6 = subst (λ (d : ℕ). d ≤ 6) (ap (λ (x : Core). x.depth) c.in_ok-inspection.ensures.core) c.in_ok-inspection.ensures.begins.depth in
     let set = g.F.Filter.struck a.filter in
     let s : State = state_at_start a.draft a.depth (contents_of a.vf.now) (contents_of a.ee.now) in
     let t : State = state_of l.inspection l.vf l.ee in
     subst (λ (j : ℕ). AnswersAlike set a.points.now a.faces.now (take j a.requests.now) s (take j l.answers) t) n
-    (answers-alike set a.points.now a.faces.now (take l.i a.requests.now) (take l.i l.answers) s t l.invariant.calls)
+    (answers-alike set a.points.now a.faces.now (take l.i a.requests.now) (take l.i l.answers) s t k l.invariant.calls)
