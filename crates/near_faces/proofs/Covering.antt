@@ -1,9 +1,10 @@
 -- Offered all, the near pairs cover the whole sheet: faces whose boxes do not meet stay apart.
-use Rattle.std.proofs.Common.{◌≡◌, ℕ, ◌<◌, Bool, true, false, List, [], take, length, refl, ◌∙◌, inr, ⊎_elim, All, Contains, arith}
+use Rattle.std.proofs.Common.{◌≡◌, ℕ, ◌<◌, Bool, true, false, List, [], take, length, refl, ◌∙◌, inr, ⊎_elim, All, Contains, arith, ◌∷◌, ◌++◌, flat_map, sym}
 use Rattle.std.specs.Prelude.{IsFalse, Any}
-use Rattle.std.proofs.lemmas.Bool.{cases_Bool, cases_lt}
+use Rattle.std.proofs.lemmas.Bool.{cases_Bool, cases_lt, or_parts}
 use Rattle.std.proofs.lemmas.List.{length-map, get_or-map}
-use Rattle.std.proofs.lemmas.List.Elements.{All-weaker, All-contains, All-contains_itself}
+use Rattle.std.proofs.lemmas.List.Elements.{All-weaker, All-contains, All-contains_itself, All-nil, All-append, All-head, All-tail}
+use Rattle.std.proofs.lemmas.List.Folds.{list_any-append}
 use Rattle.sheet.specs.declared.drafts.Draft.{Draft}
 use Rattle.sheet.specs.declared.rows.Point.{Point}
 use Rattle.sheet.specs.declared.rows.Face.{Face}
@@ -26,7 +27,8 @@ use Rattle.inspection.proofs.Claiming.{claim}
 use Rattle.inspection.proofs.Coordinates.{points_near}
 use Rattle.near_faces.specs.Boxes.{box_around, corners, swept_box, swept_boxes, meets}
 use Rattle.near_faces.specs.Near.{pair, near_pairs, Near}
-use Rattle.near_faces.specs.Covering.{AllApart, WholeSheetApart, HasAll, FarApart, CoversSheet}
+use Rattle.near_faces.specs.Covering.{AllApart, WholeSheetApart, HasAll, FarApart, Inspected, IsLeft, CoversSheet}
+use Rattle.near_faces.specs.Covering.IsLeft.{ran, claimed}
 use Rattle.near_faces.proofs.Completing.{complete}
 use Rattle.near_faces.proofs.FarApart.{IsBetween, TestsBetween, struck_between, vf_between, ee_between}
 
@@ -77,6 +79,39 @@ module _ {E : Type 0} (n : Naming E) (each : ℕ) (s : Sheet) (laws : NamingLaws
       all_apart f g hf hg two =
           ⊎_elim (λ less. in_order f g less hg) (λ le. alike_stay (Faces f g) (Faces g f) (inr (refl, refl)) (in_order g f (omega arith) hf)) (cases_lt f g)
 
+-- ---- what is listed of one kind, after several inspections
+module _ {E : Type 0} (n : Naming E) (s : Sheet) where
+  abbrev Stay : List E → Accepted → Type 0
+  Stay es o = All (λ e. IsFalse (n.shared s e) → IsFalse (has n.same e es) → Apart (n.shape s e)) (n.tests s o.what)
+
+  -- also with more entries
+  with_more : (es fs : List E) → ((e : E) → has n.same e fs ≡ false → has n.same e es ≡ false) → (h : List Accepted) → All (Stay es) h → All (Stay fs) h
+  with_more es fs more h all =
+      All-weaker (Stay es) (Stay fs)
+      (λ o stay. All-weaker (λ e. IsFalse (n.shared s e) → IsFalse (has n.same e es) → Apart (n.shape s e)) (λ e. IsFalse (n.shared s e) → IsFalse (has n.same e fs) → Apart (n.shape s e))
+      (λ e keep u l. keep u (more e l)) (n.tests s o.what) stay)
+      h all
+
+  all_stay : (f : Inspected → List E) (xs : List Inspected) → All (λ x. All (Stay (f x)) x.history) xs → All (Stay (flat_map f xs)) (flat_map (λ x. x.history) xs)
+  all_stay f [] all = All-nil (Stay [])
+  all_stay f (x ∷ xs) all =
+      let each = λ (x : Inspected). All (Stay (f x)) x.history in
+      let es : List E = f x in
+      let rest : List E = flat_map f xs in
+      let both = λ (e : E) (l : has n.same e (es ++ rest) ≡ false). or_parts (has n.same e es) (has n.same e rest) (sym (list_any-append (n.same e) es rest) ∙ l) in
+      All-append (Stay (es ++ rest)) x.history (flat_map (λ x. x.history) xs)
+      (with_more es (es ++ rest) (λ e l. (both e l).0) x.history (All-head each x xs all))
+      (with_more rest (es ++ rest) (λ e l. (both e l).1) (flat_map (λ x. x.history) xs) (all_stay f xs (All-tail each x xs all)))
+
+-- what a run leaves can be claimed of it
+vf_stays : (d : Draft) (s : Sheet) (x : Inspected) → IsLeft d s x → All (Stay vf_naming s x.vf) x.history
+vf_stays d s x (ran set law history out t run) = (claim law d s history out t run).vf.apart
+vf_stays d s x (claimed set core c) = c.vf.apart
+
+ee_stays : (d : Draft) (s : Sheet) (x : Inspected) → IsLeft d s x → All (Stay ee_naming s x.ee) x.history
+ee_stays d s x (ran set law history out t run) = (claim law d s history out t run).ee.apart
+ee_stays d s x (claimed set core c) = c.ee.apart
+
 -- ---- of both
 module _ (s : Sheet) (reach : (k : ℕ) → InReach 0 (point_at s k)) where
   far_ones : FarApart s
@@ -94,6 +129,17 @@ module _ (s : Sheet) (reach : (k : ℕ) → InReach 0 (point_at s k)) where
         ee = all_apart ee_naming 9 s (ee_laws s) (ee_between s) reach ees history c.ee.apart has_all;
       }
 
+  by_several : (d : Draft) (xs : List Inspected) → All (IsLeft d s) xs → HasAll (near_pairs s) (flat_map (λ x. x.history) xs)
+      → WholeSheetApart s (flat_map (λ x. x.vf) xs) (flat_map (λ x. x.ee) xs)
+  by_several d xs all has_all =
+      let history : List Accepted = flat_map (λ x. x.history) xs in
+      let vf = all_stay vf_naming s (λ x. x.vf) xs (All-weaker (IsLeft d s) (λ x. All (Stay vf_naming s x.vf) x.history) (vf_stays d s) xs all) in
+      let ee = all_stay ee_naming s (λ x. x.ee) xs (All-weaker (IsLeft d s) (λ x. All (Stay ee_naming s x.ee) x.history) (ee_stays d s) xs all) in
+      record {
+        vf = all_apart vf_naming 6 s (vf_laws s) (vf_between s) reach (flat_map (λ x. x.vf) xs) history vf has_all;
+        ee = all_apart ee_naming 9 s (ee_laws s) (ee_between s) reach (flat_map (λ x. x.ee) xs) history ee has_all;
+      }
+
 pub covering : (d : Draft) (ps : List Point) (fs : List Face) → CoversSheet d (sheet_in d ps fs) (near_pairs (sheet_in d ps fs))
 covering d ps fs =
     let s = sheet_in d ps fs in
@@ -101,5 +147,6 @@ covering d ps fs =
     record {
       runs = λ set law history out t run has_all. whole_sheet s reach set d history t.core t.vf.entries t.ee.entries (claim law d s history out t run) has_all;
       claims = λ set history core vfs ees c has_all. whole_sheet s reach set d history core vfs ees c has_all;
+      several = by_several s reach d;
       far = far_ones s reach;
     }

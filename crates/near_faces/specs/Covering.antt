@@ -1,5 +1,5 @@
 -- What the near pairs are for: offered all, they cover the whole sheet.
-use Rattle.std.specs.Prelude.{◌≡◌, ℕ, ◌<◌, Bool, IsFalse, List, All, Any, length}
+use Rattle.std.specs.Prelude.{◌≡◌, ℕ, ◌<◌, Bool, IsFalse, List, All, Any, flat_map, length}
 use Rattle.sheet.specs.declared.drafts.Draft.{Draft}
 use Rattle.motion.specs.declared.shapes.Shape.{Shape}
 use Rattle.motion.specs.Laws.{Lawful, Apart}
@@ -45,6 +45,20 @@ pub record FarApart (s : Sheet) : Type 0 where
   pub vf : AllFarApart vf_naming s
   pub ee : AllFarApart ee_naming s
 
+-- ---- what an inspection leaves: its accepted offers, and the names on its two lists
+pub record Inspected : Type 0 where
+  pub history : List Accepted
+  pub vf : List VfName
+  pub ee : List EeName
+
+-- that is left by a run over this draft and sheet, by whatever lawful set, or is claimed of one
+pub data IsLeft (d : Draft) (s : Sheet) : Inspected → Type 0 where
+  ran : (set : Shape → Bool) → Lawful set → (history : List Accepted) (out : List Slip) (t : State)
+      → Run set d s history out t
+      → IsLeft d s (record { history = history; vf = t.vf.entries; ee = t.ee.entries })
+  claimed : {x : Inspected} (set : Shape → Bool) (core : Core)
+      → Claim set d s x.history core x.vf x.ee → IsLeft d s x
+
 -- ---- offered all, these pairs cover the sheet
 pub record CoversSheet (d : Draft) (s : Sheet) (ps : List Pair) : Type 0 where
   -- after every run, by whatever lawful set, whose accepted offers have them
@@ -55,5 +69,10 @@ pub record CoversSheet (d : Draft) (s : Sheet) (ps : List Pair) : Type 0 where
   pub claims : (set : Shape → Bool) (history : List Accepted) (core : Core)
       (vfs : List VfName) (ees : List EeName)
       → Claim set d s history core vfs ees → HasAll ps history → WholeSheetApart s vfs ees
+  -- and so after several, of which each pair was accepted by some, where what is listed is on a list
+  -- of one of them
+  pub several : (xs : List Inspected) → All (IsLeft d s) xs
+      → HasAll ps (flat_map (λ x. x.history) xs)
+      → WholeSheetApart s (flat_map (λ x. x.vf) xs) (flat_map (λ x. x.ee) xs)
   -- the other pairs of faces need no offer
   pub far : FarApart s

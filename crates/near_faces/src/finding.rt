@@ -25,8 +25,8 @@ use sheet::{Draft, FACE_LIMIT, Face, Point};
 /// names a point that there is not, the lowest such face (19); there are under 2·faces − 1 nodes,
 /// unless the sheet is empty (24); there are more pairs than places (25).
 ///
-/// Offered all to an inspection, these pairs cover the whole sheet: of every two faces, near or
-/// far, what shares no point and is on no list stays apart.
+/// Offered all to an inspection, or to several, these pairs cover the whole sheet: of every two
+/// faces, near or far, what shares no point and is on no list stays apart.
 pub fn find_near(
     draft: &Draft,
     points: &[Point],
