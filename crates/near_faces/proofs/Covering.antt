@@ -29,7 +29,8 @@ use Rattle.near_faces.specs.Boxes.{box_around, corners, swept_box, swept_boxes, 
 use Rattle.near_faces.specs.Near.{pair, near_pairs, Near}
 use Rattle.near_faces.specs.Covering.{AllApart, WholeSheetApart, HasAll, FarApart, Inspected, IsLeft, CoversSheet}
 use Rattle.near_faces.specs.Covering.IsLeft.{ran, claimed}
-use Rattle.near_faces.proofs.Completing.{complete}
+use Rattle.near_faces.specs.declared.pairs.Pair.{Pair}
+use Rattle.near_faces.proofs.EachTwo.{each_two}
 use Rattle.near_faces.proofs.FarApart.{IsBetween, TestsBetween, struck_between, vf_between, ee_between}
 
 -- ---- two faces whose boxes do not meet: Box strikes each of their tests
@@ -60,24 +61,14 @@ module _ {E : Type 0} (n : Naming E) (each : ℕ) (s : Sheet) (laws : NamingLaws
     far f g h = All-weaker (λ e. Apart (n.shape s e)) Stays (λ e a u l. a) (n.tests s (Faces f g)) (far_apart f g h)
 
     module _ (history : List Accepted) (accepted : All (λ o. AllStay o.what) history) (has_all : HasAll (near_pairs s) history) where
-      -- two faces whose boxes meet: they were accepted
-      near : (f g : ℕ) → f < g → g < length s.faces → boxes_meet f g ≡ true → AllStay (Faces f g)
-      near f g less inside m =
-          let at = λ (k : ℕ) (h : k < length s.faces). get_or-map (swept_box s) s.faces k no_face (box_around []) h in
-          let is_near : Near (swept_boxes s) (pair f g) = record {
-            lower_first = less;
-            within = omega (arith, length-map s.faces (swept_box s));
-            meet = (λ i. meets (at f (omega arith) i) (at g inside i)) ∙ m;
-          } in
-          let (k, o, here, is, same) = All-contains (λ p. Any (λ o. SameOffering (Faces p.first p.second) o.what) history) (near_pairs s) (pair f g) has_all ((complete (swept_boxes s)).all (pair f g) is_near) in
-          alike_stay (Faces f g) o.what same (All-contains (λ o. AllStay o.what) history o accepted (k, here, is))
-
-      in_order : (f g : ℕ) → f < g → g < length s.faces → AllStay (Faces f g)
-      in_order f g less inside = ⊎_elim (near f g less inside) (far f g) (cases_Bool (boxes_meet f g))
+      -- the near pairs were accepted
+      near : All (λ (p : Pair). AllStay (Faces p.first p.second)) (near_pairs s)
+      near =
+          All-weaker (λ (p : Pair). Any (λ o. SameOffering (Faces p.first p.second) o.what) history) (λ (p : Pair). AllStay (Faces p.first p.second))
+          (λ p (k, o, here, is, same). alike_stay (Faces p.first p.second) o.what same (All-contains (λ o. AllStay o.what) history o accepted (k, here, is))) (near_pairs s) has_all
 
       all_apart : AllApart n s es
-      all_apart f g hf hg two =
-          ⊎_elim (λ less. in_order f g less hg) (λ le. alike_stay (Faces f g) (Faces g f) (inr (refl, refl)) (in_order g f (omega arith) hf)) (cases_lt f g)
+      all_apart = each_two s AllStay alike_stay (λ f g hf hg apart. far f g apart) near
 
 -- ---- what is listed of one kind, after several inspections
 module _ {E : Type 0} (n : Naming E) (s : Sheet) where

@@ -246,7 +246,7 @@ module _ (first : List ℕ) (whole : no_feed first ≡ true) (plain : IsPlain fi
   settled_after s plan_ending.Complete is claims =
       let parts = claims_parts s p (refused_count p) claims in
       subst (λ (t : Sheet). SettlesFrames t (text is) (printout p).stored) parts.0 (all_settled is parts.1)
-  settled_after s plan_ending.Faulty is claims =
+  settled_after s (plan_ending.Faulty m) is claims =
       nothing_said s (with_line_feed first ++ o.line) ((first ∷ []) ++ (second.words ∷ []))
       (lines_are (with_line_feed first ++ o.line) ((first ∷ []) ++ (second.words ∷ [])) (are_more (with_line_feed first) o.line (first ∷ []) (second.words ∷ []) (are_one first whole) second_are))
       (All-append IsInner (first ∷ []) (second.words ∷ []) (one IsInner first plain.inner) (one IsInner second.words second.inner))
@@ -265,8 +265,8 @@ module _ (f : Frames) where
 
   by_answer : (x : Recording) → (outcome f).answer ≡ x → Claims f (after x).ending → SettlesFrames (sheet_between f) (after x).text (after x).refused
   by_answer Recorded is claims = settled_after (outcome f).line line.whole (line.plain is) f.start (record_between f) (sheet_between f) (pairing f.start (record_between f)).ending refl claims
-  by_answer (Faulty file) is claims = ended
-  by_answer Different is claims = ended
+  by_answer (Faulty file m) is claims = ended
+  by_answer (Different d) is claims = ended
 
   pub settled_frames : Claims f (account f).ending → SettlesFrames (sheet_between f) (account f).text (account f).refused
   settled_frames claims = by_answer (outcome f).answer refl claims
