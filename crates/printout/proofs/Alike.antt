@@ -1,5 +1,6 @@
 -- By two sets that agree on every test the same is printed and stored.
 use Rattle.std.proofs.Common.{◌≡◌, ℕ, ◌≤◌, Bool, ◌||◌, nat_lt, List, [], ◌∷◌, ◌++◌, length, flat_map, Some, None, Option, refl, ap, ◌∙◌, lit≤}
+use Rattle.std.specs.Prelude.{codes}
 use Rattle.sheet.specs.Checks.{first_fit, check}
 use Rattle.sheet.specs.declared.notices.Layer.TheVariants.{Offer}
 use Rattle.sheet.specs.declared.notices.Notice.{Notice}
@@ -84,8 +85,8 @@ module _ (set set' : Shape → Bool) (same : Agree set set') (s : Sheet) (near :
   report_alike f low =
       let v = windows_agree set set' same vf_naming 6 s (vf_laws s) near f.core.depth low in
       let w = windows_agree set set' same ee_naming 9 s (ee_laws s) near f.core.depth low in
-      λ i. (flat_map (λ e. vf_line e (v e i)) (numbered f.vf) ++ count_line Vf (tally_in Vf f.core.tallies))
-      ++ (flat_map (λ e. ee_line e (w e i)) (numbered f.ee) ++ count_line Ee (tally_in Ee f.core.tallies))
+      λ i. (flat_map (λ e. vf_line e (v e i) ++ codes "\n") (numbered f.vf) ++ (count_line Vf (tally_in Vf f.core.tallies) ++ codes "\n"))
+      ++ (flat_map (λ e. ee_line e (w e i) ++ codes "\n") (numbered f.ee) ++ (count_line Ee (tally_in Ee f.core.tallies) ++ codes "\n"))
 
 -- ---- all of a plan
 -- after a walk
