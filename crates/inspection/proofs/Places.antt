@@ -1,4 +1,4 @@
--- Places of a list's table: their names beside their marks, and more of them at the end.
+-- Places of a list's table: their names beside their marks, and a mark that is written over.
 use Rattle.std.proofs.Common.{◌≡◌, ℕ, zero, suc, Bool, ◌||◌, List, [], ◌∷◌, ◌++◌, take, drop, set, get_or, refl, ap, ◌∙◌}
 use Rattle.std.specs.List.{list_any}
 use Rattle.inspection.specs.declared.marks.Mark.{Mark}
@@ -7,10 +7,6 @@ use Rattle.inspection.specs.Marks.{new_entry}
 use Rattle.inspection.specs.Lists.{names, marks, places, has}
 
 module _ {E : Type 0} where
-  put_back : (ps : List (Marked E)) → places (names ps) (marks ps) ≡ ps
-  put_back [] = refl
-  put_back (p ∷ ps) = ap (λ qs. p ∷ qs) (put_back ps)
-
   pub whole_table : (n : ℕ) (ps : List (Marked E)) → places (names (take n ps)) (marks (take n ps)) ++ drop n ps ≡ ps
   whole_table zero ps = refl
   whole_table (suc n) [] = refl

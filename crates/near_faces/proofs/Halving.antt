@@ -100,9 +100,3 @@ built f h p q k run (x ∷ ns) ls us bounds d e two half all p_is q_is k_is l u 
     ∙ ap around (take-append-drop h run) in
     subst (λ (ms : List Node). IsTree f run (set ms 0 r)) (sym w)
     (whole_tree f h run ls us r two half l u (ap (λ (c : SweptBox). record { first = f; count = length run; bounds = c }) is_around))
-
--- the tree in front, and the old nodes behind it
-pub built_front : (bs : List SweptBox) (ns old : List Node) (n : ℕ) → n ≡ 2 * length bs - 1 → IsTree 0 bs ns → IsTree 0 bs (take n (ns ++ drop n old)) × (drop n (ns ++ drop n old) ≡ drop n old)
-built_front bs ns old n e t =
-    let m : length ns ≡ n = omega (arith, places t) in
-    (subst (IsTree 0 bs) (sym (take_at ns (drop n old) n m)) t, drop_at ns (drop n old) n m)

@@ -37,7 +37,7 @@ impl SweptBox {
     }
 
     /// Whether the boxes overlap or touch on all three axes.
-    pub fn meets(self, other: SweptBox) -> bool
+    pub(crate) fn meets(self, other: SweptBox) -> bool
         ensures { result ≡ meets self other }
     {
         is_at_most(self.least, other.greatest) && is_at_most(other.least, self.greatest)
