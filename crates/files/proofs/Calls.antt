@@ -19,7 +19,7 @@ module _ {D P F E : Type 0} (path : P → F → List ℕ) (target : P → Option
         front = cut.front;
         rest = cut.rest;
         split = sym same ∙ cut.split;
-        before = record { disk = cut.before; paths = s.paths };
+        before = record { disk = cut.before; paths = s.paths; stored = s.stored };
         did = record { paths = refl; done = subst (λ d. DoesIfAny path target does s.disk d cut.before) (sym (is_deed cut.front)) cut.did };
         failed = record { paths = paths; failed = subst (λ k. FailsIfAny path target fails cut.before k e t.disk) (sym is_task) cut.failed };
       }

@@ -54,6 +54,8 @@ pub fn site_name<P: FilePaths>(paths: &P, site: Site<P::File>) -> &str
 pub struct OnDisk<D, P> {
     pub disk: D,
     pub paths: P,
+    /// How many bytes the work has stored, also where there is no target for them.
+    pub stored: u64,
 }
 
 impl<D: Disk<P::File>, P: FilePaths> Host for OnDisk<D, P>
@@ -82,6 +84,7 @@ where
     }
 
     fn store(&mut self, bytes: &[u8]) -> Result<(), D::Error> {
+        self.stored = self.stored.saturating_add(bytes.len() as u64);
         match self.paths.target() {
             Some(path) => self.disk.store(path, bytes),
             None => Ok(()),
@@ -91,6 +94,17 @@ where
 
 impl<D: Disk<P::File>, P: FilePaths> OnDisk<D, P> {
     ghost use Rattle.files.specs.OnDisk.{Ends};
+
+    /// Nothing is stored yet.
+    pub fn new(disk: D, paths: P) -> OnDisk<D, P>
+        ensures { result ≡ record { disk = disk; paths = paths; stored = 0 } }
+    {
+        OnDisk {
+            disk,
+            paths,
+            stored: 0,
+        }
+    }
 
     /// Ends a run: does the last after a work that went well; after one that failed lets out what was
     /// printed, if that can be done, and answers its error.

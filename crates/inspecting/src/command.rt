@@ -48,7 +48,8 @@ Each list has 512 entries, and a million pairs are accepted. Tests are struck at
   --               ends the options
 
 The exit status is 0 where all was inspected, pairs refused or not, and 1 after any other fault, where the frames differ or the
-arguments are wrong, and where something stops the run, which is told on standard error by its name and the reason.
+arguments are wrong, and where something stops the run, which is told on standard error by its name and the reason. A fault that ends
+the run, how frames differ, and how many pairs were refused are told there in words, a fault with its file and line.
 ";
 
 const ABOUT: About = About {

@@ -11,6 +11,7 @@ use pairing::{PAIR_BYTES, PAIR_LIMIT};
 use sheet::TEXT_LIMIT;
 use std::alloc::AllocError;
 use std::io;
+use telling::{tell_difference, tell_fault, tell_refused};
 use two_frames::{Accounted, FramesEnding, Tables, inspect_frames};
 
 /// One byte more than the longest text that is accepted.
@@ -19,21 +20,49 @@ const TEXT: usize = TEXT_LIMIT + 1;
 /// Bytes for what is printed. A run that prints more is made once more, with as much as it needs.
 const PAGE: usize = 262_144;
 
-/// Inspects the step between the frames at two paths: the exit status. What stops the run is told,
-/// and the frame that has a fault.
+/// What can be done about pairs that are refused.
+const SEE_HELP: &str =
+    " Where a list was full (fault 21), `inspect --help` says how they get runs of their own.";
+
+/// Inspects the step between the frames at two paths: the exit status. What stops the run is told, a
+/// fault and a difference in words, and how many pairs were refused.
 pub(crate) fn inspect_files(rt: &HostRuntime, start: &str, end: &str) -> u8
     ensures { result ≤ 1 }
 {
     let run = inspect_paths(rt, start, end);
     let status = status(&run);
     match run {
-        Ok(FramesEnding::Faulty(file, _)) => {
-            tell(rt, name_of(Site::File(file), start, end), "it has a fault");
-        }
-        Ok(_) => {}
+        Ok(ending) => tell_ending(rt, start, end, ending),
         Err(failure) => tell(rt, name_of(failure.site, start, end), failure.reason),
     }
     status
+}
+
+/// Tells in words what an ending leaves to say.
+fn tell_ending(rt: &HostRuntime, start: &str, end: &str, ending: FramesEnding) {
+    match ending {
+        FramesEnding::Covered => {}
+        FramesEnding::Refused(count) => {
+            let _ = tell_refused_of(rt, start, end, count);
+        }
+        // the search is over the sheet of the first frame
+        FramesEnding::Unsearched(fault) | FramesEnding::Faulty(FrameFile::Start, fault) => {
+            tell_fault(rt, start, fault);
+        }
+        FramesEnding::Faulty(FrameFile::End, fault) => tell_fault(rt, end, fault),
+        FramesEnding::Different(difference) => tell_difference(rt, start, end, difference),
+    }
+}
+
+fn tell_refused_of(
+    rt: &HostRuntime,
+    start: &str,
+    end: &str,
+    count: usize,
+) -> Result<(), AllocError> {
+    let name = format!(in rt.alloc(); "{start}, {end}")?;
+    tell_refused(rt, name.as_str(), count as u64, SEE_HELP);
+    Ok(())
 }
 
 /// The exit status after a run.
@@ -42,9 +71,7 @@ fn status<E>(run: &Result<FramesEnding, E>) -> u8
 {
     match run {
         Ok(FramesEnding::Covered | FramesEnding::Refused(_)) => 0,
-        Ok(
-            FramesEnding::Unsearched(_) | FramesEnding::Faulty(..) | FramesEnding::Different(_),
-        )
+        Ok(FramesEnding::Unsearched(_) | FramesEnding::Faulty(..) | FramesEnding::Different(_))
         | Err(_) => 1,
     }
 }

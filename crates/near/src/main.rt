@@ -29,7 +29,7 @@ There are places for a million pairs, since no inspection accepts more (fault 25
 
 The exit status is 0 where the pairs are stored and their line is printed, and 1 after a fault, where the arguments are wrong, and
 where something stops the run, which is told on standard error by its name and the reason. Then pairs.bin is as it was, unless
-only the line could not be printed.
+only the line could not be printed. A fault is told there in words too, with its file and line.
 ";
 
 const ABOUT: About = About {

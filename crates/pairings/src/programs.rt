@@ -6,11 +6,12 @@ use crate::runs::pair_on_disk;
 use files::{Machine, OnDisk, may_store, site_name, tell};
 use near_faces::Pair;
 use pairing::{PAIR_BYTES, PAIR_LIMIT, Tables};
-use plans::status;
+use plans::{status, tell_plan_fault};
+use printout::Ending;
 use std::alloc::{AllocError, Global};
 
 /// Finds the pairs of the plan in a folder and stores them there: the exit status. What stops the run
-/// is told.
+/// is told, a fault in words.
 pub fn pair_folder(rt: &HostRuntime, folder: &str) -> u8
     ensures { result ≤ 1 }
 {
@@ -35,15 +36,17 @@ pub fn pair_folder(rt: &HostRuntime, folder: &str) -> u8
             return 1;
         }
     };
-    let mut plan = OnDisk { disk, paths };
+    let mut plan = OnDisk::new(disk, paths);
     let run = pair_on_disk(
         &mut tables,
         full_table(&mut near),
         full_table(&mut bytes),
         &mut plan,
     );
-    if let Err(failure) = &run {
-        tell(rt, site_name(&plan.paths, failure.site), failure.reason);
+    match &run {
+        Err(failure) => tell(rt, site_name(&plan.paths, failure.site), failure.reason),
+        Ok(Ending::Faulty(fault)) => tell_plan_fault(rt, &plan.paths.plan, *fault),
+        Ok(Ending::Complete) => {}
     }
     status(&run)
 }

@@ -6,5 +6,5 @@ mod programs;
 mod runs;
 
 pub use paths::Paths;
-pub use programs::inspect_folder;
+pub use programs::{inspect_folder, tell_plan_fault};
 pub use runs::{inspect_on_disk, status};

@@ -14,6 +14,7 @@ use std::alloc::AllocError;
 use std::process::ExitCode;
 use std::{fs, io};
 use step::lay;
+use telling::{tell_fault, tell_refused};
 
 /// The most entries of a list.
 const ENTRIES: usize = 512;
@@ -37,7 +38,8 @@ What has a fault gets the line that `inspect` prints for it.
   --           ends the options
 
 The exit status is 0, and 1 after a fault of the sheet or of the step, where the arguments are wrong, and where something
-stops the run, which is told on standard error.
+stops the run, which is told on standard error. A fault that ends the run, with its file and line, and how many pairs were refused
+are told there in words.
 ";
 
 const ABOUT: About = About {
@@ -106,11 +108,11 @@ fn ask_in_folder(rt: &HostRuntime, folder: &str) -> Result<u8, Stop> {
     )?;
     let draft = match read_sheet(&text, &mut points, &mut faces) {
         Ok(draft) => draft,
-        Err(fault) => return refuse(rt, fault.notice()),
+        Err(fault) => return refuse(rt, folder, "sheet.obj", fault.notice()),
     };
     let step = read(rt, folder, "step.bin")?;
     if let Err(fault) = lay(&draft, &step, &mut points) {
-        return refuse(rt, fault.notice());
+        return refuse(rt, folder, "step.bin", fault.notice());
     }
     let mut vf_table = [Marked::default(); ENTRIES];
     let mut ee_table = [Marked::default(); ENTRIES];
@@ -118,29 +120,39 @@ fn ask_in_folder(rt: &HostRuntime, folder: &str) -> Result<u8, Stop> {
     let mut ee = List::new(&mut ee_table);
     let mut inspection = match Inspection::open(draft, DELIVERED, DEPTH, &mut vf, &mut ee) {
         Ok(inspection) => inspection,
-        Err(refused) => return refuse(rt, refused.fault.notice()),
+        Err(refused) => return refuse(rt, folder, "sheet.obj", refused.fault.notice()),
     };
     let pairs = read(rt, folder, "pairs.bin")?;
+    let mut refused = 0u64;
     for what in pair_offerings(&pairs) {
         if let Err(fault) = inspection.offer(&points, &faces, &mut vf, &mut ee, what) {
             println!(rt; "{}", fault.notice()).map_err(Stop::Output)?;
+            refused = refused.saturating_add(1);
         }
     }
     ask_about_list(rt, &inspection, &points, &faces, &vf).map_err(Stop::Output)?;
     ask_about_list(rt, &inspection, &points, &faces, &ee).map_err(Stop::Output)?;
+    let path = path_of(rt, folder, "pairs.bin")?;
+    tell_refused(rt, path.as_str(), refused, "");
     Ok(0)
 }
 
 fn read(rt: &HostRuntime, folder: &str, name: &str) -> Result<Vec<u8>, Stop> {
-    let path = format!(in rt.alloc(); "{folder}/{name}").map_err(Stop::Memory)?;
+    let path = path_of(rt, folder, name)?;
     match fs::read(rt, path.as_str()) {
         Ok(bytes) => Ok(bytes),
         Err(reason) => Err(Stop::File(path, reason)),
     }
 }
 
-/// Tells a fault that ends the run: the exit status.
-fn refuse(rt: &HostRuntime, notice: Notice) -> Result<u8, Stop> {
+fn path_of(rt: &HostRuntime, folder: &str, name: &str) -> Result<String, Stop> {
+    format!(in rt.alloc(); "{folder}/{name}").map_err(Stop::Memory)
+}
+
+/// Tells a fault of a file that ends the run: the exit status.
+fn refuse(rt: &HostRuntime, folder: &str, name: &str, notice: Notice) -> Result<u8, Stop> {
     println!(rt; "{notice}").map_err(Stop::Output)?;
+    let path = path_of(rt, folder, name)?;
+    tell_fault(rt, path.as_str(), notice);
     Ok(1)
 }

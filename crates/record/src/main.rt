@@ -14,7 +14,7 @@ a line `v X Y Z` for each point, `f A B C` for each face; points count from 1 th
 
 It prints
   step N points, N moved, N bytes      the record is stored
-  fault NUMBER LAYER PLACE PLACE       a frame has a fault; which one is told on standard error
+  fault NUMBER LAYER PLACE PLACE       a frame has a fault; which frame is told on standard error
   the frames have N and N points       the frames are not of one sheet; so too for their faces
   the frames differ in face N          the first face that is another one, counted from 0
 and in the last three cases stores nothing. docs/RULES.md explains the faults by their numbers.
@@ -27,7 +27,7 @@ A frame has at most 2,048 points, 4,096 faces and 65,536 bytes of text, with coo
 
 The exit status is 0 where the record is stored and its line printed, and 1 where not, where the arguments are wrong, and where something
 stops the run, which is told on standard error by its name and the reason. Then STEP.bin is as it was, unless only the line
-could not be printed.
+could not be printed. A fault, with its file and line, and how the frames differ are told there in words too.
 ";
 
 const ABOUT: About = About {

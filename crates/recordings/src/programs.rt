@@ -5,9 +5,10 @@ use crate::paths::Paths;
 use crate::runs::{record_on_disk, status};
 use files::{FilePaths, Machine, OnDisk, may_store, site_name, tell};
 use frames::{Recording, Tables};
+use telling::{tell_difference, tell_fault};
 
-/// Records the step between two frames: the exit status. What stops the run is told, and the frame
-/// that has a fault.
+/// Records the step between two frames: the exit status. What stops the run is told: a fault of a
+/// frame, and how they differ, in words.
 pub fn record_frames(rt: &HostRuntime, paths: Paths) -> u8
     ensures { result ≤ 1 }
 {
@@ -23,12 +24,20 @@ pub fn record_frames(rt: &HostRuntime, paths: Paths) -> u8
         }
     };
     let mut tables = Tables::new();
-    let mut frames = OnDisk { disk, paths };
+    let mut frames = OnDisk::new(disk, paths);
     let run = record_on_disk(&mut tables, &mut frames);
     match &run {
         Err(failure) => tell(rt, site_name(&frames.paths, failure.site), failure.reason),
-        Ok(Recording::Faulty(file, _)) => tell(rt, frames.paths.path(*file), "it has a fault"),
-        Ok(_) => {}
+        Ok(Recording::Faulty(file, fault)) => tell_fault(rt, frames.paths.path(*file), *fault),
+        Ok(Recording::Different(difference)) => {
+            let Paths {
+                start,
+                end,
+                step: _,
+            } = &frames.paths;
+            tell_difference(rt, start.as_str(), end.as_str(), *difference);
+        }
+        Ok(Recording::Recorded) => {}
     }
     status(&run)
 }
