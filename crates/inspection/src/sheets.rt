@@ -2,7 +2,7 @@
 ghost use Rattle.std.specs.Prelude.{◌≡◌, ◌≤◌, length, unsigned_abs, is_none, IfSome};
 ghost use Rattle.sheet.specs.Counted.{coordinate_of};
 ghost use Rattle.motion.specs.Laws.{Within, InReach};
-ghost use Rattle.inspection.specs.Sheets.{position_of, moving_of, sheet_of, sheet_in, sheet_of_rows, point_at, face_at};
+ghost use Rattle.inspection.specs.Sheets.{position_of, moving_of, sheet_in, sheet_of_rows, point_at, face_at};
 ghost use Rattle.inspection.specs.Offers.{lacks_rows};
 
 use motion::{Moving, V3};
