@@ -1,7 +1,7 @@
 // The filter Plane: the point never comes into the plane of the face, nor one edge into a plane
 // with the other.
 ghost use Rattle.std.specs.Prelude.{◌≡◌, ◌*◌, ◌^◌, pos, ◌+ℤ◌, ◌*ℤ◌, IsTrue};
-ghost use Rattle.motion.specs.Vectors.{◌-ᵛ◌, dot};
+ghost use Rattle.motion.specs.Vectors.{dot};
 ghost use Rattle.motion.specs.Plane.{d0, d1, n0, n1, 2n̂, normal, controls, all_above, all_below, one_sign, plane_set, StaysAbove, StaysBelow};
 ghost use Rattle.motion.proofs.PlaneLaws.{plane-lawful};
 ghost use Rattle.filters.specs.Reaching.{Reach, Small};
