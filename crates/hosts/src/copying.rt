@@ -1,5 +1,5 @@
 // Bytes copied from one buffer into another.
-ghost use Rattle.std.specs.Prelude.{◌≡◌, length, take, drop, min};
+ghost use Rattle.std.specs.Prelude.{◌≡◌, length, take, min};
 ghost use Rattle.hosts.specs.Pages.{onto_page};
 
 /// Copies as much of the front as there is room for, and answers how much.

@@ -1,5 +1,5 @@
 // Lent bytes to print on.
-ghost use Rattle.std.specs.Prelude.{◌≡◌, ◌+◌, ◌++◌, length, take, drop};
+ghost use Rattle.std.specs.Prelude.{◌≡◌, ◌+◌, ◌++◌, take};
 ghost use Rattle.hosts.specs.Pages.{onto_page};
 
 use crate::hosts::Host;

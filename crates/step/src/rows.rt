@@ -1,7 +1,6 @@
 // What a record says of one row.
 ghost use Rattle.std.specs.Prelude.{◌≡◌, IfOk};
 ghost use Rattle.sheet.specs.Checks.{first_fit, fault_notice};
-ghost use Rattle.sheet.specs.Counted.{counted};
 ghost use Rattle.step.specs.Faults.{notice_of_step};
 ghost use Rattle.step.specs.Laying.{row_checks, with_end, after_row, fields_checks, ends_of, after_fields};
 
