@@ -1,5 +1,5 @@
 // Two frames of one sheet: how they differ, and the step between them.
-ghost use Rattle.std.specs.Prelude.{◌≡◌, ◌≤◌, length, take};
+ghost use Rattle.std.specs.Prelude.{◌≡◌, take};
 ghost use Rattle.frames.specs.Comparing.{same_face, first_other, difference_of, toward, ending_at, moving_in};
 
 use sheet::{Draft, Face, Point};

@@ -1,5 +1,5 @@
 // The lines that tell what comes of two frames.
-ghost use Rattle.std.specs.Prelude.{◌≡◌, ◌≤◌, ◌++◌, length, codes, decimal};
+ghost use Rattle.std.specs.Prelude.{◌≡◌, ◌≤◌, length};
 ghost use Rattle.frames.specs.Comparing.{moving_in};
 ghost use Rattle.frames.specs.Lines.{counts_line, difference_line, step_line};
 

@@ -1,5 +1,5 @@
 // Two frames in memory.
-ghost use Rattle.std.specs.Prelude.{◌≡◌, ◌+◌, ◌-◌, ◌^◌, ◌≤◌, [], length, min, IfSome, unwrap_or};
+ghost use Rattle.std.specs.Prelude.{◌≡◌, ◌+◌, ◌-◌, ◌^◌, [], length, min, IfSome, unwrap_or};
 ghost use Rattle.hosts.specs.Pages.{onto_page, Filled};
 ghost use Rattle.step.specs.Steps.{Step};
 ghost use Rattle.frames.specs.Frames.{frames, points_of, step_between};

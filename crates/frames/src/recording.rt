@@ -1,5 +1,5 @@
 // The record of the step between two frames.
-ghost use Rattle.std.specs.Prelude.{◌≡◌, ◌≤◌, length, take};
+ghost use Rattle.std.specs.Prelude.{◌≡◌, ◌≤◌, length};
 ghost use Rattle.hosts.specs.Writing.{Writes};
 ghost use Rattle.sheet.specs.Sheet.{point_limit};
 ghost use Rattle.step.specs.Limit.{record_limit};
