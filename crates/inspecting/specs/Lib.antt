@@ -1,1 +1,2 @@
+pub mod OnDisk
 pub mod Statuses

@@ -4,7 +4,8 @@ ghost use Rattle.frames.specs.Frames.{frames};
 ghost use Rattle.two_frames.specs.Accounts.{account};
 ghost use Rattle.inspecting.specs.Statuses.{status_after};
 
-use files::{Disk, Failure, Machine, Site, tell};
+use crate::reading::{print_account, read_frames};
+use files::{Failure, Machine, Site, tell};
 use frames::FrameFile;
 use near_faces::Pair;
 use pairing::{PAIR_BYTES, PAIR_LIMIT};
@@ -104,24 +105,8 @@ fn inspect_paths(
     let mut first = zeros(rt, TEXT)?;
     let mut second = zeros(rt, TEXT)?;
     let mut page = zeros(rt, PAGE)?;
-    let first_len = disk.fill(FrameFile::Start, start, &mut first)?;
-    let first = &first[..first_len];
-    // a fault of the first needs no second
-    let account = inspect_frames(
-        &mut tables,
-        near,
-        bytes,
-        offered,
-        first,
-        b"",
-        &mut page,
-        &mut [],
-    );
-    if let FramesEnding::Faulty(FrameFile::Start, _) = account.ending {
-        return print_account(&mut disk, account, &page);
-    }
-    let second_len = disk.fill(FrameFile::End, end, &mut second)?;
-    let second = &second[..second_len];
+    let (first_len, second_len) = read_frames(&mut disk, start, end, &mut first, &mut second)?;
+    let (first, second) = (&first[..first_len], &second[..second_len]);
     match account_of(rt, &mut tables, near, bytes, offered, first, second, page) {
         Ok((account, page)) => print_account(&mut disk, account, &page),
         Err((account, page, failure)) => {
@@ -178,17 +163,6 @@ fn account_of(
         }
         Err(failure) => Err((account, page, failure)),
     }
-}
-
-/// Prints an account, or the front of it that the page has.
-fn print_account(
-    disk: &mut Machine<FrameFile>,
-    account: Accounted,
-    page: &[u8],
-) -> Result<FramesEnding, Failure<FrameFile>> {
-    disk.print(&page[..account.printed_len.min(page.len())])?;
-    disk.flush()?;
-    Ok(account.ending)
 }
 
 fn zeros(rt: &HostRuntime, len: usize) -> Result<Vec<u8>, Failure<FrameFile>>

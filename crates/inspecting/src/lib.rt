@@ -3,5 +3,6 @@
 
 mod command;
 mod frame_files;
+mod reading;
 
 pub use command::inspect_command;
