@@ -1,5 +1,5 @@
 // The line that tells how many pairs there are.
-ghost use Rattle.std.specs.Prelude.{◌≡◌, length};
+ghost use Rattle.std.specs.Prelude.{◌≡◌};
 ghost use Rattle.pairing.specs.Pairings.{pairs_line};
 
 use arrayvec::ArrayString;

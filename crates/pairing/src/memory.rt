@@ -1,5 +1,5 @@
 // A plan in memory.
-ghost use Rattle.std.specs.Prelude.{◌≡◌, ◌+◌, ◌-◌, ◌^◌, ◌≤◌, [], length, min, IfSome, unwrap_or};
+ghost use Rattle.std.specs.Prelude.{◌≡◌, ◌+◌, ◌-◌, ◌^◌, [], length, min, IfSome, unwrap_or};
 ghost use Rattle.hosts.specs.Pages.{onto_page, Filled};
 ghost use Rattle.printout.specs.Memory.{plan};
 ghost use Rattle.pairing.specs.Pairings.{pairing};

@@ -1,7 +1,6 @@
 // A run from two frames.
 ghost use Rattle.std.specs.Prelude.{◌≡◌, ◌+◌, ◌-◌, ◌*◌, ◌^◌, ◌≤◌, ◌++◌, codes, length, min, take, None};
 ghost use Rattle.hosts.specs.Pages.{onto_page};
-ghost use Rattle.step.specs.Limit.{record_limit};
 ghost use Rattle.pairing.specs.Pairings.{pair_room};
 ghost use Rattle.frames.specs.Frames.{frames};
 ghost use Rattle.printout.specs.Memory.{plan};
