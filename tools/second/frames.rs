@@ -5,13 +5,10 @@ use crate::filters::Point;
 use crate::sheet::{self, Sheet};
 use std::path::Path;
 
-/// Reads a frame; where it has a fault, its name is told too.
+/// Reads a frame.
 fn read_frame(path: &Path) -> Result<Sheet, Stop> {
     let text = files::read(path, files::MOST_OF_SHEET)?;
-    sheet::read(&text).map_err(|fault| Stop {
-        told: format!("{}: it has a fault\n", path.display()),
-        ..fault.into()
-    })
+    Ok(sheet::read(&text)?)
 }
 
 /// The line of the first difference that keeps two frames from being of one sheet.
