@@ -1,5 +1,5 @@
 // Written from docs/RULES.md alone: the program `inspect`, for a folder and for two frames; with --questions `questions`, and with
-// --reviewers the example `reviewers`.
+// --reviewers the example `example_reviewers`.
 
 mod boxes;
 mod faults;

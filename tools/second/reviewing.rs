@@ -1,4 +1,4 @@
-// Written from docs/RULES.md alone: several people at one list, and the example `reviewers`.
+// Written from docs/RULES.md alone: several people at one list, and the example `example_reviewers`.
 
 use crate::faults::Fault;
 use crate::filters::Kind;
@@ -183,7 +183,7 @@ impl Session {
     }
 }
 
-/// What `reviewers` prints.
+/// What `example_reviewers` prints.
 pub fn review() -> Result<String, Fault> {
     let mut session = Session::open()?;
     let [vf, ee] = [Kind::Vf, Kind::Ee].map(|kind| session.inspection.side(kind).list.len());

@@ -3,7 +3,8 @@
 #![tactic(auto)]
 
 ghost use Rattle.std.specs.Prelude.{◌≡◌, map, Some};
-ghost use Rattle.cases.specs.Worked.{worked_faults, notice, Worked};
+ghost use Rattle.sheet.specs.Checks.{notice};
+ghost use Rattle.cases.specs.Worked.{worked_faults, WorkedCases};
 
 use sheet::{Layer, Notice};
 
@@ -13,7 +14,7 @@ use sheet::{Layer, Notice};
 /// that the other crates' contracts cite, and of no code.
 pub fn worked_cases() -> [Notice; 8]
     ensures faults { map Some result ≡ worked_faults }
-    ensures cases { Worked }
+    ensures cases { WorkedCases }
 {
     [
         notice(9, Layer::Step, 0, 0),

@@ -3,8 +3,8 @@ use Rattle.std.proofs.Common.{◌≡◌, ◌^◌, List, [], ◌∷◌, map, ℤ,
 use lib.Lanes.{Each1}
 use Rattle.std.proofs.lemmas.List.{length-map}
 use Rattle.motion.specs.declared.shapes.V3.{V3}
-use Rattle.filters.specs.Reaching.{Near, Reach}
-use Rattle.filters.specs.Lanes.{vectors, Lanes, InLanes}
+use Rattle.filters.specs.inner.Bounds.{Bounded, Reach}
+use Rattle.filters.specs.inner.Lanes.{vectors, Lanes, InLanes}
 use Rattle.filters.proofs.Exact.{value}
 use Rattle.filters.proofs.Laned.{backs}
 
@@ -18,8 +18,8 @@ held f v = to_z w64 (of_z w64 (f v))
 
 module _ (vs : List V3) (reach : Each1 (Reach (2 ^ 19)) vs) where
   -- one coordinate of them, as it comes back from lanes
-  module _ (f : V3 → ℤ) (near : (v : V3) → Reach (2 ^ 19) v → Near (2 ^ 19) (f v)) (xs : List ℤ) (e : xs ≡ map (held f) vs) where
-    all-near : (us : List V3) → Each1 (Reach (2 ^ 19)) us → Each1 (Near (2 ^ 19)) (map f us)
+  module _ (f : V3 → ℤ) (near : (v : V3) → Reach (2 ^ 19) v → Bounded (2 ^ 19) (f v)) (xs : List ℤ) (e : xs ≡ map (held f) vs) where
+    all-near : (us : List V3) → Each1 (Reach (2 ^ 19)) us → Each1 (Bounded (2 ^ 19)) (map f us)
     all-near [] h = tt
     all-near (u ∷ us) h = (near u h.0, all-near us h.1)
 

@@ -10,7 +10,7 @@ use Rattle.motion.specs.declared.shapes.Moving.{Moving}
 use Rattle.motion.specs.Features.{firsts, seconds}
 use Rattle.motion.specs.Box.{under}
 use Rattle.filters.specs.declared.spans.Span.{Span}
-use Rattle.filters.specs.Spans.{stretch, sides, parted}
+use Rattle.filters.specs.inner.Spans.{stretch, sides, parted}
 
 max-assoc : (a b c : ℤ) → int_max (int_max a b) c ≡ int_max a (int_max b c)
 max-assoc a b c = omega (arith, ints, clamps)

@@ -8,7 +8,8 @@ use Rattle.motion.specs.Earliest.{put_until, EarliestMeans, first_of}
 use Rattle.std.proofs.lemmas.Bool.{both_ways, leb-true}
 use Rattle.motion.proofs.Subintervals.{twice}
 use Rattle.motion.proofs.Windows.{first_at_whole, first_step, first_below, first_of_window, earliest_means}
-use Rattle.filters.specs.FirstParts.{earliest_at, behind_first_half}
+use Rattle.filters.specs.FirstParts.{earliest_at}
+use Rattle.filters.specs.inner.Halves.{behind_first_half}
 use Rattle.filters.specs.declared.first_parts.Earliest.{Earliest}
 
 abbrev found : ℕ → Option ℕ → Earliest

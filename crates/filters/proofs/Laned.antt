@@ -13,10 +13,10 @@ use Rattle.std.proofs.lemmas.List.Folds.{list_all-map}
 use Rattle.motion.specs.declared.shapes.V3.{V3}
 use Rattle.motion.specs.Vectors.{vector, dot}
 use Rattle.motion.specs.Slab.{above, below}
-use Rattle.filters.specs.Reaching.{Near, Reach}
+use Rattle.filters.specs.inner.Bounds.{Bounded, Reach}
 use Rattle.motion.specs.Laws.{Within}
 use Rattle.filters.specs.declared.lanes.Vectors.{Vectors}
-use Rattle.filters.specs.Lanes.{Lanes, InLanes, vectors}
+use Rattle.filters.specs.inner.Lanes.{Lanes, InLanes, vectors}
 use Rattle.filters.proofs.Exact.{near-mul, near-add, value}
 use Rattle.filters.proofs.Reaches.{dot-near}
 
@@ -29,33 +29,33 @@ Plus = act2 (add signed) (s_int w32) (s_int w32) (s_int w32)
 abbrev Less : ℕ → ℕ → ℕ
 Less = act2 (mask (lt signed)) (s_int w32) (s_int w32) (s_int w32)
 
-small : {B : ℕ} {z : ℤ} → Near B z → T (ltb B (2 ^ 31)) → SFits w32 z
+small : {B : ℕ} {z : ℤ} → Bounded B z → T (ltb B (2 ^ 31)) → SFits w32 z
 small {B} p t = let h : B < 2 ^ 31 = ltb→lt B (2 ^ 31) t in omega (arith, ints)
 
-pub back : {B : ℕ} {z : ℤ} → Near B z → T (ltb B (2 ^ 31)) → to_z w32 (of_z w32 z) ≡ z
+pub back : {B : ℕ} {z : ℤ} → Bounded B z → T (ltb B (2 ^ 31)) → to_z w32 (of_z w32 z) ≡ z
 back p t = to_z-of_z (small p t)
 
 -- a number of 64 bits, cast to 32
 abbrev pub cast : ℤ → ℕ
 cast k = of_z w32 (to_z w64 (of_z w64 k))
 
-pub cast-back : {B : ℕ} {k : ℤ} → Near B k → T (ltb B (2 ^ 63)) → T (ltb B (2 ^ 31)) → to_z w32 (cast k) ≡ k
+pub cast-back : {B : ℕ} {k : ℤ} → Bounded B k → T (ltb B (2 ^ 63)) → T (ltb B (2 ^ 31)) → to_z w32 (cast k) ≡ k
 cast-back p s t = ap (λ z. to_z w32 (of_z w32 z)) (value p s).same ∙ back p t
 
-pub casts-back : (xs : List ℤ) → Each1 (Near (2 ^ 19)) xs → map (λ x. to_z w32 (cast x)) xs ≡ xs
+pub casts-back : (xs : List ℤ) → Each1 (Bounded (2 ^ 19)) xs → map (λ x. to_z w32 (cast x)) xs ≡ xs
 casts-back [] h = refl
 casts-back (x ∷ xs) h = λ i. cast-back h.0 tt tt i ∷ casts-back xs h.1 i
 
-pub backs : (xs : List ℤ) → Each1 (Near (2 ^ 19)) xs → map (to_z w32) (map (of_z w32) xs) ≡ xs
+pub backs : (xs : List ℤ) → Each1 (Bounded (2 ^ 19)) xs → map (to_z w32) (map (of_z w32) xs) ≡ xs
 backs [] h = refl
 backs (x ∷ xs) h = λ i. back h.0 tt i ∷ backs xs h.1 i
 
 -- ---- what is asked, of bits that hold small numbers
 abbrev Holds : ℕ → ℕ → Type 0
-Holds B b = Near B (to_z w32 b)
+Holds B b = Bounded B (to_z w32 b)
 
-holds : {B : ℕ} {z : ℤ} → Near B z → T (ltb B (2 ^ 31)) → Holds B (of_z w32 z)
-holds {B} p t = subst (Near B) (sym (back p t)) p
+holds : {B : ℕ} {z : ℤ} → Bounded B z → T (ltb B (2 ^ 31)) → Holds B (of_z w32 z)
+holds {B} p t = subst (Bounded B) (sym (back p t)) p
 
 times-asked : (a b : ℕ) → Holds 1 a → Holds (2 ^ 19) b → Asks2 (mul signed) (s_int w32) (s_int w32) a b
 times-asked a b h g = let f = small (near-mul h g) tt in search (rules, f)
@@ -68,11 +68,11 @@ zip-all P Q R f h [] ns p q = tt
 zip-all P Q R f h (a ∷ ms) [] p q = tt
 zip-all P Q R f h (a ∷ ms) (b ∷ ns) p q = (h a b p.0 q.0, zip-all P Q R f h ms ns p.1 q.1)
 
-module _ (k : ℤ) (short : Near 1 k) (xs : List ℤ) (l : Lanes (2 ^ 19) xs) where
+module _ (k : ℤ) (short : Bounded 1 k) (xs : List ℤ) (l : Lanes (2 ^ 19) xs) where
   casts-hold : Each1 (Holds 1) (replicate 4 (cast k))
-  casts-hold = Each1-replicate (Holds 1) 4 (cast k) (subst (Near 1) (sym (cast-back short tt tt)) short)
+  casts-hold = Each1-replicate (Holds 1) 4 (cast k) (subst (Bounded 1) (sym (cast-back short tt tt)) short)
 
-  lanes-hold : (ys : List ℤ) → Each1 (Near (2 ^ 19)) ys → Each1 (Holds (2 ^ 19)) (map (of_z w32) ys)
+  lanes-hold : (ys : List ℤ) → Each1 (Bounded (2 ^ 19)) ys → Each1 (Holds (2 ^ 19)) (map (of_z w32) ys)
   lanes-hold [] h = tt
   lanes-hold (y ∷ ys) h = (holds h.0 tt, lanes-hold ys h.1)
 
@@ -93,10 +93,10 @@ module _ (ms ns : List ℕ) where
   longer-sums-asked p q = Each2-of (Holds (2 ^ 20)) (Holds (2 ^ 19)) _ (plus-asked (2 ^ 20) (2 ^ 19) tt) ms ns p q
 
 -- ---- what is given
-times-is : {k x : ℤ} → Near 1 k → Near (2 ^ 19) x → Times (cast k) (of_z w32 x) ≡ of_z w32 (k *ℤ x)
+times-is : {k x : ℤ} → Bounded 1 k → Bounded (2 ^ 19) x → Times (cast k) (of_z w32 x) ≡ of_z w32 (k *ℤ x)
 times-is h g = λ i. of_z w32 (cast-back h tt tt i *ℤ back g tt i)
 
-plus-is : {m n : ℕ} {x y : ℤ} → Near m x → Near n y → T (ltb m (2 ^ 31)) → T (ltb n (2 ^ 31)) → Plus (of_z w32 x) (of_z w32 y) ≡ of_z w32 (x +ℤ y)
+plus-is : {m n : ℕ} {x y : ℤ} → Bounded m x → Bounded n y → T (ltb m (2 ^ 31)) → T (ltb n (2 ^ 31)) → Plus (of_z w32 x) (of_z w32 y) ≡ of_z w32 (x +ℤ y)
 plus-is h g s t = λ i. of_z w32 (back h s i +ℤ back g t i)
 
 -- all four bits of a mask
@@ -132,12 +132,12 @@ module _ (d : V3) (within : Within 1 d) where
   short = record { x = record { size = within.0 }; y = record { size = within.1 }; z = record { size = within.2 } }
 
   abbrev Dots : List V3 → Type 0
-  Dots vs = Each1 (λ v. Near (3 * 2 ^ 19) (dot d v)) vs
+  Dots vs = Each1 (λ v. Bounded (3 * 2 ^ 19) (dot d v)) vs
 
   abbrev dots : List V3 → List ℕ
   dots vs = map (λ v. of_z w32 (dot d v)) vs
 
-  product-is : (x y z : ℤ) → Near (2 ^ 19) x → Near (2 ^ 19) y → Near (2 ^ 19) z
+  product-is : (x y z : ℤ) → Bounded (2 ^ 19) x → Bounded (2 ^ 19) y → Bounded (2 ^ 19) z
       → Plus (Plus (Times (cast d.x) (of_z w32 x)) (Times (cast d.y) (of_z w32 y))) (Times (cast d.z) (of_z w32 z)) ≡ of_z w32 (dot d (vector x y z))
   unfolding dot
   product-is x y z p q r =
@@ -151,7 +151,7 @@ module _ (d : V3) (within : Within 1 d) where
       (zip2 Times (replicate n (cast d.z)) (map (of_z w32) zs))
 
   -- the products with all that stand in lanes
-  sums-are : (xs ys zs : List ℤ) → length ys ≡ length xs → length zs ≡ length xs → Each1 (Near (2 ^ 19)) xs → Each1 (Near (2 ^ 19)) ys → Each1 (Near (2 ^ 19)) zs
+  sums-are : (xs ys zs : List ℤ) → length ys ≡ length xs → length zs ≡ length xs → Each1 (Bounded (2 ^ 19)) xs → Each1 (Bounded (2 ^ 19)) ys → Each1 (Bounded (2 ^ 19)) zs
       → let vs = vectors (record { x = xs; y = ys; z = zs }) in (sums xs ys zs (length xs) ≡ dots vs) × (Dots vs × (length vs ≡ length xs))
   sums-are [] ys zs e f p q r = (refl, (tt, refl))
   sums-are (x ∷ xs) [] zs e f p q r = absurd (omega arith)

@@ -9,7 +9,7 @@ use Rattle.motion.specs.declared.shapes.Shape.{Shape}
 use Rattle.motion.specs.Vectors.{◌-ᵛ◌}
 use Rattle.motion.specs.Features.{firsts, seconds}
 use Rattle.motion.specs.Slab.{above, below, parted_along}
-use Rattle.filters.specs.Differences.{differences, at_start, at_end, have_one_sign}
+use Rattle.filters.specs.inner.Differences.{differences, at_start, at_end, have_one_sign}
 
 -- every pair of points of the kind's features, at the start and at the end
 abbrev pairs_of : (V3 → Bool) → Kind → Moving → Moving → Moving → Moving → Bool

@@ -3,7 +3,7 @@ use Rattle.std.proofs.Common.{◌≡◌, ℕ, ◌+◌, ◌*◌, ◌^◌, ◌≤�
 use Rattle.motion.specs.declared.shapes.V3.{V3}
 use Rattle.motion.specs.Vectors.{◌+ᵛ◌, ◌-ᵛ◌, dot, cross}
 use Rattle.motion.specs.Laws.{Within}
-use Rattle.filters.specs.Reaching.{Near, Reach}
+use Rattle.filters.specs.inner.Bounds.{Bounded, Reach}
 use Rattle.filters.proofs.Exact.{near-add, near-sub, near-mul}
 
 pub wider : {m n : ℕ} {u : V3} → Reach m u → T (leb m n) → Reach n u
@@ -21,7 +21,7 @@ pub cross-reach : {m n : ℕ} {u v : V3} → Reach m u → Reach n v → Reach (
 unfolding cross
 cross-reach p q = record { x = near-sub (near-mul p.y q.z) (near-mul p.z q.y); y = near-sub (near-mul p.z q.x) (near-mul p.x q.z); z = near-sub (near-mul p.x q.y) (near-mul p.y q.x) }
 
-pub dot-near : {m n : ℕ} {u v : V3} → Reach m u → Reach n v → Near (m * n + m * n + m * n) (dot u v)
+pub dot-near : {m n : ℕ} {u v : V3} → Reach m u → Reach n v → Bounded (m * n + m * n + m * n) (dot u v)
 unfolding dot
 dot-near p q = near-add (near-add (near-mul p.x q.x) (near-mul p.y q.y)) (near-mul p.z q.z)
 

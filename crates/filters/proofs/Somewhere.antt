@@ -5,7 +5,7 @@ use Rattle.std.proofs.lemmas.List.Folds.{list_any-append}
 use Rattle.motion.specs.declared.shapes.V3.{V3}
 use Rattle.motion.specs.declared.shapes.Shape.{Shape}
 use Rattle.motion.specs.Slab.{parted_along, directions, slab_set}
-use Rattle.filters.specs.Slabs.{diagonals}
+use Rattle.filters.specs.inner.Slabs.{diagonals}
 
 module _ (f : V3 → Bool) (ds es : List V3) where
   in-front : (a : Bool) → a ≡ list_any f ds → a ≡ true → a ≡ list_any f (ds ++ es)

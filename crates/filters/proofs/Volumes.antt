@@ -7,11 +7,12 @@ use Rattle.motion.specs.Vectors.{dot}
 use Rattle.motion.specs.Laws.{Valid, Within}
 use Rattle.motion.specs.Plane.{n0, n1, velocity_normal, controls}
 use Rattle.motion.proofs.Determinants.{Triple, det, at_start, at_end, controls-are}
-use Rattle.filters.specs.Reaching.{Near, Reach, Small}
+use Rattle.filters.specs.Reaching.{Small}
+use Rattle.filters.specs.inner.Bounds.{Bounded, Reach}
 use Rattle.filters.proofs.Exact.{Exact, called, near-add, near-mul}
 use Rattle.filters.proofs.Reaches.{minus-reach, cross-reach, dot-near, in-reach}
 
-three : Near 3 (pos 3)
+three : Bounded 3 (pos 3)
 three = record { size = omega arith }
 
 -- ---- products of the factors, as the code has them
@@ -23,7 +24,7 @@ module _ {d n : V3} {r : ℤ} (e : r ≡ dot d n) (p : Reach (2 ^ 19) d) where
   pub mixed-volume : Reach (3 * 2 ^ 40) n → Exact (9 * 2 ^ 59) (dot d n) (to_z w64 (of_z w64 r))
   mixed-volume q = called e (dot-near p q) tt
 
-det-near : {a b c : V3} → Reach (2 ^ 19) a → Reach (2 ^ 19) b → Reach (2 ^ 19) c → Near (3 * 2 ^ 58) (det a b c)
+det-near : {a b c : V3} → Reach (2 ^ 19) a → Reach (2 ^ 19) b → Reach (2 ^ 19) c → Bounded (3 * 2 ^ 58) (det a b c)
 det-near p q r = dot-near p (cross-reach q r)
 
 record Short (s : Triple) : Type 0 where

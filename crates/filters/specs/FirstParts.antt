@@ -1,6 +1,5 @@
 -- The earliest subinterval that is passed, and how many are put to a filter to find it.
-use Rattle.std.specs.Prelude.{ℕ, ◌+◌, ◌^◌, Bool}
-use Rattle.std.specs.Option.{option_map}
+use Rattle.std.specs.Prelude.{ℕ, Bool}
 use Rattle.motion.specs.declared.shapes.Shape.{Shape}
 use Rattle.motion.specs.Depths.{first_passed}
 use Rattle.motion.specs.Earliest.{put_until}
@@ -9,8 +8,3 @@ use Rattle.filters.specs.declared.first_parts.Earliest.{Earliest}
 unfoldable pub earliest_at : (Shape → Bool) → ℕ → Shape → Earliest
 earliest_at set d t =
     let first = first_passed set d t in record { part = first; put = put_until d first }
-
--- that of the last half, as it counts in the whole, where all 2^d of the first are struck
-unfoldable pub behind_first_half : ℕ → Earliest → Earliest
-behind_first_half d e =
-    record { part = option_map (λ k. 2 ^ d + k) e.part; put = 2 ^ d + e.put }

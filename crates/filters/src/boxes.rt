@@ -2,7 +2,7 @@
 ghost use Rattle.std.specs.Prelude.{◌≡◌};
 ghost use Rattle.motion.specs.Box.{parted_on, box_set};
 ghost use Rattle.motion.proofs.BoxLaws.{box-lawful};
-ghost use Rattle.filters.specs.Boxes.{coordinate, swept};
+ghost use Rattle.filters.specs.inner.Boxes.{coordinate, swept};
 
 use crate::filter::Filter;
 use crate::spans::{Sides, Span};

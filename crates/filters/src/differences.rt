@@ -2,8 +2,8 @@
 ghost use Rattle.std.specs.Prelude.{◌≡◌, All};
 ghost use Rattle.std.specs.List.{list_any};
 ghost use Rattle.motion.specs.Laws.{Within};
-ghost use Rattle.filters.specs.Differences.{at_start, at_end, have_one_sign};
-ghost use Rattle.filters.specs.Lanes.{vectors, InLanes};
+ghost use Rattle.filters.specs.inner.Differences.{at_start, at_end, have_one_sign};
+ghost use Rattle.filters.specs.inner.Lanes.{vectors, InLanes};
 
 use crate::lanes::Vectors;
 use crate::tests::Test;

@@ -2,7 +2,8 @@
 ghost use Rattle.std.specs.Prelude.{◌≡◌, ◌+◌, ◌^◌, ◌<◌, ◌≤◌, nat_le, if◌then◌else◌, Some, None, IfSome};
 ghost use Rattle.motion.specs.Depths.{window_at};
 ghost use Rattle.motion.specs.Earliest.{EarliestMeans, first_of};
-ghost use Rattle.filters.specs.FirstParts.{earliest_at, behind_first_half};
+ghost use Rattle.filters.specs.FirstParts.{earliest_at};
+ghost use Rattle.filters.specs.inner.Halves.{behind_first_half};
 
 use crate::depths::has_room;
 use crate::filter::Filter;
@@ -22,7 +23,7 @@ pub struct Earliest {
 impl Earliest {
     /// As it counts in the whole, where it is of the last half and the filter struck the first,
     /// each with 2^depth parts.
-    #[tactic(auto, using(crate::proofs::Inside::power_bound), unfolding(crate::specs::FirstParts::behind_first_half))]
+    #[tactic(auto, using(crate::proofs::Inside::power_bound), unfolding(crate::specs::inner::Halves::behind_first_half))]
     fn behind_first_half(self, depth: u8) -> Earliest
         requires depth { depth ≤ 5 }
         requires part { IfSome self.part (λ k. k < 2 ^ depth) }

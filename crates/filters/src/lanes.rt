@@ -3,8 +3,8 @@ ghost use Rattle.std.specs.Prelude.{◌≡◌, ◌^◌, ◌∷◌, []};
 ghost use Rattle.std.specs.List.{list_all};
 ghost use Rattle.motion.specs.Laws.{Within};
 ghost use Rattle.motion.specs.Slab.{above, below};
-ghost use Rattle.filters.specs.Reaching.{Near, Reach};
-ghost use Rattle.filters.specs.Lanes.{vectors, InLanes};
+ghost use Rattle.filters.specs.inner.Bounds.{Bounded, Reach};
+ghost use Rattle.filters.specs.inner.Lanes.{vectors, InLanes};
 
 use motion::V3;
 use std::simd::prelude::*;
@@ -60,7 +60,7 @@ impl Vectors {
 
 #[inline(always)]
 fn lanes(a: i64, b: i64, c: i64, d: i64) -> i32x4
-    requires { Near (2 ^ 19) a × Near (2 ^ 19) b × Near (2 ^ 19) c × Near (2 ^ 19) d }
+    requires { Bounded (2 ^ 19) a × Bounded (2 ^ 19) b × Bounded (2 ^ 19) c × Bounded (2 ^ 19) d }
     ensures { result ≡ a ∷ b ∷ c ∷ d ∷ [] }
 {
     i32x4::from_array([a as i32, b as i32, c as i32, d as i32])

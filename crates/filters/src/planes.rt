@@ -4,7 +4,8 @@ ghost use Rattle.std.specs.Prelude.{◌≡◌, ◌*◌, ◌^◌, pos, ◌+ℤ◌
 ghost use Rattle.motion.specs.Vectors.{dot};
 ghost use Rattle.motion.specs.Plane.{d0, d1, n0, n1, 2n̂, normal, controls, all_above, all_below, one_sign, plane_set, StaysAbove, StaysBelow};
 ghost use Rattle.motion.proofs.PlaneLaws.{plane-lawful};
-ghost use Rattle.filters.specs.Reaching.{Reach, Small};
+ghost use Rattle.filters.specs.Reaching.{Small};
+ghost use Rattle.filters.specs.inner.Bounds.{Reach};
 
 use crate::filter::Filter;
 use crate::tests::Test;

@@ -4,7 +4,7 @@ ghost use Rattle.std.specs.List.{list_any};
 ghost use Rattle.motion.specs.Slab.{parted_along, directions, slab_set};
 ghost use Rattle.motion.specs.Laws.{Within};
 ghost use Rattle.motion.proofs.SlabLaws.{slab-lawful};
-ghost use Rattle.filters.specs.Slabs.{diagonals};
+ghost use Rattle.filters.specs.inner.Slabs.{diagonals};
 
 use crate::differences::Differences;
 use crate::filter::Filter;

@@ -1,6 +1,6 @@
 // Stretches of a line, and the two features of a test as such.
 ghost use Rattle.std.specs.Prelude.{◌≡◌};
-ghost use Rattle.filters.specs.Spans.{stretch, joined, sides, under, parted};
+ghost use Rattle.filters.specs.inner.Spans.{stretch, hull, sides, lies_below, parted};
 
 use motion::Kind;
 
@@ -22,7 +22,7 @@ impl Span {
     }
 
     fn join(self, other: Span) -> Span
-        ensures { result ≡ joined self other }
+        ensures { result ≡ hull self other }
     {
         Span {
             low: self.low.min(other.low),
@@ -31,7 +31,7 @@ impl Span {
     }
 
     fn is_under(self, other: Span) -> bool
-        ensures { result ≡ under self other }
+        ensures { result ≡ lies_below self other }
     {
         self.high < other.low
     }

@@ -2,7 +2,7 @@
 // small as it asks.
 ghost use Rattle.std.specs.Prelude.{◌≡◌, ◌*◌, ◌^◌, ◌-ℤ◌, ◌*ℤ◌};
 ghost use Rattle.motion.specs.Vectors.{◌+ᵛ◌, ◌-ᵛ◌, dot, cross};
-ghost use Rattle.filters.specs.Reaching.{Near, Reach};
+ghost use Rattle.filters.specs.inner.Bounds.{Bounded, Reach};
 
 use motion::V3;
 
@@ -58,10 +58,10 @@ pub(crate) fn cross(u: V3, v: V3) -> V3
 
 // a d − b c
 fn minor(a: i64, b: i64, c: i64, d: i64) -> i64
-    requires first { Near (2 ^ 20) a }
-    requires second { Near (2 ^ 20) b }
-    requires third { Near (2 ^ 20) c }
-    requires fourth { Near (2 ^ 20) d }
+    requires first { Bounded (2 ^ 20) a }
+    requires second { Bounded (2 ^ 20) b }
+    requires third { Bounded (2 ^ 20) c }
+    requires fourth { Bounded (2 ^ 20) d }
     ensures { result ≡ a *ℤ d -ℤ b *ℤ c }
 {
     a * d - b * c

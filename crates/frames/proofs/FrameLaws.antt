@@ -1,5 +1,5 @@
 -- Points that get the ends of another frame, row by row.
-use Rattle.std.proofs.Common.{◌≡◌, ℕ, ◌+◌, ◌<◌, ◌≤◌, min, List, [], ◌∷◌, ◌++◌, length, get_or, take, drop, set, sym, refl, ap, ◌∙◌, inl, inr, arith}
+use Rattle.std.proofs.Common.{◌≡◌, ℕ, zero, suc, ◌+◌, ◌<◌, ◌≤◌, min, List, [], ◌∷◌, ◌++◌, length, get_or, take, drop, set, sym, refl, ap, ◌∙◌, inl, inr, arith}
 use Rattle.std.proofs.lemmas.List.{at_drop_more, at_drop_all, take_all, take_more_set, drop-set-lt, append_assoc, append-nil, take-append-drop}
 use Rattle.std.proofs.lemmas.Bool.{cases_lt}
 use Rattle.sheet.specs.declared.rows.Point.{Point}
@@ -21,3 +21,9 @@ ending_all ps fs i ends h before =
       | inl k ↦ sym (take-append-drop i ps) ∙ ap (λ t. take i ps ++ t) (sym (at_drop_all (λ t. ending_at (drop i ps) t) fs i (omega arith) ∙ no_frame (drop i ps))) ∙ before
       | inr k ↦ sym (append-nil (take i ps) ∙ take_all i ps k) ∙ ap (λ t. take i ps ++ t) (sym (at_drop_all (λ t. ending_at t (drop i fs)) ps i k)) ∙ before
     ]
+
+pub take-ending_at : (n : ℕ) (ps fs : List Point) → take n (ending_at ps fs) ≡ ending_at (take n ps) (take n fs)
+take-ending_at zero ps fs = refl
+take-ending_at (suc n) [] fs = refl
+take-ending_at (suc n) (p ∷ ps) [] = refl
+take-ending_at (suc n) (p ∷ ps) (f ∷ fs) = ap (λ t. toward p f ∷ t) (take-ending_at n ps fs)

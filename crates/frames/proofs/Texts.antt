@@ -9,7 +9,7 @@ use Rattle.sheet.specs.declared.faults.SheetFault.{SheetFault}
 use Rattle.sheet.specs.declared.rows.Face.{Face}
 use Rattle.sheet.specs.declared.rows.Point.{Point}
 use Rattle.frames.specs.Frames.{frame_fault, points_of, faces_of}
-use Rattle.frames.specs.Reading.{Says}
+use Rattle.frames.specs.inner.ReadFrame.{Says}
 use Rattle.sheet.proofs.Fronts.{front_decides, front_is_whole}
 
 first_rows : {X : Type 0} (n : ℕ) (rows table full : List X) → n ≡ length rows → full ≡ onto_front rows table → take n full ≡ rows

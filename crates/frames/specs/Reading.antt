@@ -1,31 +1,29 @@
--- What comes of a frame's text of which the first bytes came.
-use Rattle.std.specs.Prelude.{◌≡◌, ℕ, ◌+◌, List, take, Some, None, Ok, Err, Result}
-use Rattle.hosts.specs.Events.{Event, Read}
-use Rattle.sheet.specs.Faults.{notice_of_sheet}
-use Rattle.sheet.specs.Sheet.{text_limit, draft_of}
+-- What comes of frames' texts of which the first bytes came, whatever they have past those.
+use Rattle.std.specs.Prelude.{◌≡◌, List, take, Some, None, Ok, Err, Result}
+use Rattle.hosts.specs.Events.{Event, Call}
+use Rattle.hosts.specs.Outcomes.{Reads}
+use Rattle.sheet.specs.Sheet.{draft_of}
 use Rattle.sheet.specs.declared.drafts.Draft.{Draft}
-use Rattle.sheet.specs.declared.faults.SheetFault.{SheetFault}
 use Rattle.sheet.specs.declared.rows.Face.{Face}
 use Rattle.sheet.specs.declared.rows.Point.{Point}
-use Rattle.frames.specs.Frames.{frame_fault, points_of, faces_of}
+use Rattle.frames.specs.Frames.{Frames, text_of, same_frame, faces_of, step_between, no_step, needed_frames}
 use Rattle.frames.specs.declared.frame_files.FrameFile.{FrameFile}
+use Rattle.frames.specs.declared.frame_files.NoStep.{NoStep}
 
--- tables whose first rows are the frame of a text
-pub record IsFrame (text : List ℕ) (ps : List Point) (fs : List Face) (d : Draft) : Type 0 where
-  pub no_fault : frame_fault text ≡ None
-  pub draft : d ≡ draft_of text
-  pub points : take d.points ps ≡ points_of text
-  pub faces : take d.faces fs ≡ faces_of text
+-- ---- both
+-- tables whose first rows are the sheet that moves from the first frame to the second
+pub record HoldsStep (f : Frames) (ps : List Point) (fs : List Face) (d : Draft) : Type 0 where
+  pub is_step : no_step f ≡ None
+  pub draft : d ≡ draft_of f.start
+  pub points : take d.points ps ≡ step_between f
+  pub faces : take d.faces fs ≡ faces_of f.start
 
-abbrev pub Says : List ℕ → List Point → List Face → Result Draft SheetFault → Type 0
-Says text ps fs (Ok d) = IsFrame text ps fs d
-Says text ps fs (Err fault) = frame_fault text ≡ Some (notice_of_sheet fault)
+abbrev pub FramesSay : List Point → List Face → Frames → Result Draft NoStep → Type 0
+FramesSay ps fs f (Ok d) = HoldsStep f ps fs d
+FramesSay ps fs f (Err why) = no_step f ≡ Some why
 
--- the file was read once, up to one byte past the longest text, and so says the whole text, whatever
--- it has past what came
-pub record FrameRead {S : Type 0} (does : S → Event FrameFile → S → Type 0) (file : FrameFile)
-    (s : S) (ps : List Point) (fs : List Face) (read : Result Draft SheetFault) (t : S)
-    : Type 0 where
-  pub came : List ℕ
-  pub did : does s (Read file (text_limit + 1) came) t
-  pub says : (text : List ℕ) → came ≡ take (text_limit + 1) text → Says text ps fs read
+-- the frames that are needed were read, and nothing was written
+unfoldable pub FramesRead : {S E : Type 0} → (S → Event FrameFile → S → Type 0)
+    → (S → Call FrameFile → E → S → Type 0) → List Point → List Face
+    → S → Result (Result Draft NoStep) E → S → Type 0
+FramesRead does fails ps fs s r t = Reads same_frame text_of needed_frames does fails (FramesSay ps fs) s r t

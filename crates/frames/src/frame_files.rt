@@ -10,7 +10,16 @@ pub enum FrameFile {
     End,
 }
 
-/// What comes of two frames.
+/// Why there is no step between two frames.
+#[derive(Clone, Copy, Debug, PartialEq, Eq)]
+pub enum NoStep {
+    /// A frame has this fault.
+    Faulty(FrameFile, Notice),
+    /// They are not frames of one sheet: they differ so.
+    Different(Difference),
+}
+
+/// What comes of recording the step between two frames.
 #[derive(Clone, Copy, Debug, PartialEq, Eq)]
 pub enum Recording {
     /// The record of the step between them is stored.

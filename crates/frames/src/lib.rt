@@ -1,5 +1,5 @@
-//! The work of the program `record`: two frames of one sheet are read, and the record of the step
-//! between them is stored and told.
+//! Two frames of one sheet are read, and give the step between them; and the work of the program
+//! `record`: its record is stored and told.
 #![tactic(auto)]
 
 mod comparing;
@@ -12,7 +12,9 @@ mod tables;
 mod telling;
 
 pub use comparing::{Difference, compare_frames, end_at, moving};
-pub use frame_files::{FrameFile, Recording};
-pub use memory::{Recorded, record_frames};
+pub use frame_files::{FrameFile, NoStep, Recording};
+pub use memory::{FrameTexts, Recorded, record_frames};
+pub use reading::read_frames;
 pub use recording::record_step;
 pub use tables::Tables;
+pub use telling::{print_no_step, print_step};

@@ -1,15 +1,16 @@
 // The lines that tell what comes of two frames.
-ghost use Rattle.std.specs.Prelude.{◌≡◌, ◌≤◌, length};
-ghost use Rattle.frames.specs.Comparing.{moving_in};
-ghost use Rattle.frames.specs.Lines.{counts_line, difference_line, step_line};
+ghost use Rattle.std.specs.Prelude.{◌≡◌, ◌≤◌, length, take};
+ghost use Rattle.frames.specs.Lines.{counts_line, difference_line};
+ghost use Rattle.frames.specs.Outcomes.{line_of_step};
 
 use crate::comparing::{Difference, moving};
 use arrayvec::ArrayString;
 use itoa::Buffer;
 use sheet::{Draft, Point};
+use step::record_len;
 
-/// The longest line: its words, a number of five digits and two of twenty.
-pub(crate) type Line = ArrayString<73>;
+/// The longest line: its words, and three numbers of twenty digits.
+pub(crate) type Line = ArrayString<88>;
 
 /// The line that tells how two frames differ.
 pub(crate) fn difference_line(difference: Difference) -> Line
@@ -43,20 +44,20 @@ fn counts_line(start: u16, end: u16, things: &str) -> Line
     line
 }
 
-/// The line that tells a step, whose points are these rows of the draft: how many there are, how
-/// many of them move, and the length of its record.
-pub(crate) fn step_line(draft: &Draft, rows: &[Point], bytes: usize) -> Line
-    requires { length rows.now ≡ draft.now.points }
-    ensures { result.bytes ≡ step_line (length rows.now) (moving_in rows.now) bytes }
+/// The line that tells a step, whose points are the draft's: how many there are, how many of them
+/// move, and the length of its record.
+pub(crate) fn step_line(draft: &Draft, points: &[Point]) -> Line
+    ensures { result.bytes ≡ line_of_step (take draft.now.points points.now) }
 {
+    let count = points.len().min(draft.points() as usize);
     let mut digits = Buffer::new();
     let mut line = ArrayString::new();
     line.push_str("step ");
-    line.push_str(digits.format(draft.points()));
+    line.push_str(digits.format(count));
     line.push_str(" points, ");
-    line.push_str(digits.format(moving(draft, rows)));
+    line.push_str(digits.format(moving(draft, points)));
     line.push_str(" moved, ");
-    line.push_str(digits.format(bytes));
+    line.push_str(digits.format(record_len(draft, points)));
     line.push_str(" bytes");
     line
 }

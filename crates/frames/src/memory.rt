@@ -1,9 +1,10 @@
 // Two frames in memory.
 ghost use Rattle.std.specs.Prelude.{◌≡◌, ◌+◌, ◌-◌, ◌^◌, [], length, min, IfSome, unwrap_or};
-ghost use Rattle.hosts.specs.Pages.{onto_page, Filled};
+ghost use Rattle.hosts.specs.Pages.{onto_page};
+ghost use Rattle.hosts.specs.inner.Filling.{Filled};
 ghost use Rattle.step.specs.Steps.{Step};
 ghost use Rattle.frames.specs.Frames.{frames, points_of, step_between};
-ghost use Rattle.frames.specs.Outcomes.{outcome, with_line_feed};
+ghost use Rattle.frames.specs.Outcomes.{outcome};
 ghost use Rattle.frames.specs.Memory.{frames_in};
 
 use crate::frame_files::{FrameFile, Recording};
@@ -21,19 +22,18 @@ pub struct Recorded {
 
 /// What is left to read of two texts.
 #[derive(Drop)]
-struct FrameTexts<'a, 'b> {
-    start: &'a [u8],
-    end: &'b [u8],
+pub struct FrameTexts<'a, 'b> {
+    pub start: &'a [u8],
+    pub end: &'b [u8],
 }
 
 impl Files for FrameTexts<'_, '_> {
-    ghost use Rattle.frames.specs.Frames.{text_of};
+    ghost use Rattle.frames.specs.Frames.{text_of, same_frame};
     ghost use Rattle.frames.specs.Memory.{frames_in};
-    ghost use Rattle.frames.specs.Works.{same_file};
 
     type File = FrameFile;
 
-    ghost same = { same_file };
+    ghost same = { same_frame };
 
     ghost left = { λ t. text_of (frames_in t) };
 
@@ -59,15 +59,15 @@ pub fn record_frames(
     ensures answer { let f = frames start.now end.now in
         result.answer ≡ (outcome f).answer }
     ensures line { let f = frames start.now end.now in
-        line.new ≡ onto_page (with_line_feed (outcome f).line) line.old }
+        line.new ≡ onto_page (outcome f).line line.old }
     ensures line_len { let f = frames start.now end.now in
-        result.line_len ≡ min (length (with_line_feed (outcome f).line)) (2 ^ 64 - 1) }
+        result.line_len ≡ min (length (outcome f).line) (2 ^ 64 - 1) }
     ensures record_bytes { let f = frames start.now end.now in
-        bytes.new ≡ onto_page (unwrap_or (outcome f).record_stored []) bytes.old }
+        bytes.new ≡ onto_page (unwrap_or (outcome f).stored []) bytes.old }
     ensures record_len { let f = frames start.now end.now in
-        result.record_len ≡ min (length (unwrap_or (outcome f).record_stored [])) (2 ^ 64 - 1) }
+        result.record_len ≡ min (length (unwrap_or (outcome f).stored [])) (2 ^ 64 - 1) }
     ensures means { let f = frames start.now end.now in
-        IfSome (outcome f).record_stored (λ bs. Step (points_of f.start) bs (step_between f)) }
+        IfSome (outcome f).stored (λ bs. Step (points_of f.start) bs (step_between f)) }
 {
     let mut kept = Page::new(bytes);
     let mut line = Page::new(line);
@@ -93,11 +93,11 @@ fn record_in(
     ensures answer { let f = frames_in memory.old.files in
         result ≡ (outcome f).answer }
     ensures line { let f = frames_in memory.old.files in
-        Filled memory.old.printed.now memory.new.printed.now (with_line_feed (outcome f).line) }
+        Filled memory.old.printed.now memory.new.printed.now (outcome f).line }
     ensures kept { let f = frames_in memory.old.files in
-        Filled memory.old.stored.now memory.new.stored.now (unwrap_or (outcome f).record_stored []) }
+        Filled memory.old.stored.now memory.new.stored.now (unwrap_or (outcome f).stored []) }
     ensures means { let f = frames_in memory.old.files in
-        IfSome (outcome f).record_stored (λ bs. Step (points_of f.start) bs (step_between f)) }
+        IfSome (outcome f).stored (λ bs. Step (points_of f.start) bs (step_between f)) }
     ensures same_line { memory.new.printed.ghost_name ≡ memory.old.printed.ghost_name }
     ensures same_kept { memory.new.stored.ghost_name ≡ memory.old.stored.ghost_name }
 {

@@ -5,3 +5,4 @@ pub mod Printing
 pub mod Remembering
 pub mod Showing
 pub mod Writing
+pub mod Outcomes

@@ -4,7 +4,7 @@ use Rattle.std.proofs.Math.Seq.{take-add}
 use Rattle.std.proofs.lemmas.List.{append-nil, drop-drop}
 use Rattle.std.proofs.lemmas.List.Concat.{flat_map-append}
 use Rattle.std.proofs.lemmas.List.Sums.{sum_by_push}
-use Rattle.hosts.specs.Events.{Event, Fits, asked, asked_by, came, came_by, printed, printed_by, stored, stored_by}
+use Rattle.hosts.specs.Events.{Event, Fits, bytes_asked, asked_by, bytes_came, came_by, printed, printed_by, stored, stored_by}
 use Rattle.hosts.specs.Memory.{Remembers}
 use Rattle.hosts.specs.Pages.{ShowsBehind, NeverFails}
 use Rattle.hosts.specs.Traces.{Went, nothing, next}
@@ -13,18 +13,18 @@ use Rattle.hosts.specs.declared.memories.Memory.{Memory}
 use Rattle.hosts.proofs.Showing.{shown}
 
 module _ {T F : Type 0} (same : F → F → Bool) (left : T → F → List ℕ) (m : Memory T) where
-  left_after : (n : Memory T) (es : List (Event F)) → Went (Remembers same left) m es n → (f : F) → left n.files f ≡ drop (asked (same f) es) (left m.files f)
+  left_after : (n : Memory T) (es : List (Event F)) → Went (Remembers same left) m es n → (f : F) → left n.files f ≡ drop (bytes_asked (same f) es) (left m.files f)
   left_after n es nothing f = refl
   left_after n es (next {t = o} {es = first} e w d) f =
-      d.taken.left f ∙ ap (drop (asked_by (same f) e)) (left_after o first w f) ∙ drop-drop (asked_by (same f) e) (asked (same f) first) (left m.files f)
+      d.taken.left f ∙ ap (drop (asked_by (same f) e)) (left_after o first w f) ∙ drop-drop (asked_by (same f) e) (bytes_asked (same f) first) (left m.files f)
       ∙ ap (λ k. drop k (left m.files f)) (sym (sum_by_push (asked_by (same f)) first e))
 
   pub fits : (n : Memory T) (es : List (Event F)) → Went (Remembers same left) m es n → Fits same (left m.files) es
   fits n es nothing f = refl
   fits n es (next {t = o} {es = first} e w d) f =
       let whole = left m.files f in
-      let before = asked (same f) first in
-      flat_map-append (came_by (same f)) first (e ∷ []) ∙ ap (λ bs. came (same f) first ++ bs) (append-nil (came_by (same f) e))
+      let before = bytes_asked (same f) first in
+      flat_map-append (came_by (same f)) first (e ∷ []) ∙ ap (λ bs. bytes_came (same f) first ++ bs) (append-nil (came_by (same f) e))
       ∙ (λ i. fits o first w f i ++ d.taken.came f i) ∙ ap (λ bs. take before whole ++ take (asked_by (same f) e) bs) (left_after o first w f)
       ∙ sym (take-add before (asked_by (same f) e) whole) ∙ ap (λ k. take k whole) (sym (sum_by_push (asked_by (same f)) first e))
 

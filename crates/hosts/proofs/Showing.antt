@@ -6,8 +6,10 @@ use Rattle.std.specs.declared.convert.Infallible.{Infallible}
 use Rattle.hosts.specs.declared.pages.Page.{Page}
 use Rattle.hosts.specs.Events.{printed_by}
 use Rattle.hosts.specs.Traces.{Went, nothing, next}
-use Rattle.hosts.specs.Works.{Prints}
-use Rattle.hosts.specs.Pages.{onto_page, Shows, Filled, ShowsBehind, ShowsMore, NeverFails}
+use Rattle.hosts.specs.Writing.{output_in, Prints}
+use Rattle.hosts.proofs.Writing.{printed-written, output-printing}
+use Rattle.hosts.specs.Pages.{onto_page, Shows, ShowsBehind, ShowsMore, NeverFails}
+use Rattle.hosts.specs.inner.Filling.{Filled}
 
 -- the bytes that have room, written behind so many
 pub written_behind : (page text : List ℕ) (at i n : ℕ) → i ≡ min at (length page) → n ≡ min (length text) (length page - i) → take i page ++ (take n text ++ drop n (drop i page)) ≡ onto_page (take at page ++ text) page
@@ -29,5 +31,5 @@ shown does page text each s t es (next {t = m} {es = first} e w d) lent before h
 -- what is printed on an empty page is what it shows
 pub printed_shown : {X : Type 0} (p q : Page) (text : List ℕ) (r : Result X Infallible) → Prints ShowsMore NeverFails text p r q → Filled p q text
 printed_shown p q text (Ok x) done lent empty =
-    subst (λ t. Shows lent t q) done.good.whole (shown ShowsMore (λ p. p) printed_by (λ s t e d. d) p q done.events done.went lent [] empty)
+    subst (λ t. Shows lent t q) (printed-written done.events ∙ ap output_in done.good.whole ∙ output-printing text) (shown ShowsMore (λ p. p) printed_by (λ s t e d. d) p q done.events done.went lent [] empty)
 printed_shown p q text (Err e) done lent empty = absurd done.failed

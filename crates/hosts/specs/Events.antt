@@ -60,18 +60,18 @@ module _ {F : Type 0} (is : F → Bool) where
   came_by (Stored bytes) = []
 
   -- how many of its bytes were asked for, and those that came
-  abbrev pub asked : List (Event F) → ℕ
-  asked es = sum_by asked_by es
+  abbrev pub bytes_asked : List (Event F) → ℕ
+  bytes_asked es = sum_by asked_by es
 
-  abbrev pub came : List (Event F) → List ℕ
-  came es = flat_map came_by es
+  abbrev pub bytes_came : List (Event F) → List ℕ
+  bytes_came es = flat_map came_by es
 
 -- each file has given its first bytes, as many as were asked for, or all where it has fewer
 abbrev pub Fits : {F : Type 0} → (F → F → Bool) → (F → List ℕ) → List (Event F) → Type 0
-Fits {F} same bytes_of es = (f : F) → came (same f) es ≡ take (asked (same f) es) (bytes_of f)
+Fits {F} same bytes_of es = (f : F) → bytes_came (same f) es ≡ take (bytes_asked (same f) es) (bytes_of f)
 
 -- what an event takes of a file comes from the front of what was left of it before
-pub record Takes {F : Type 0} (same : F → F → Bool) (before : F → List ℕ) (e : Event F)
+pub record TakesBytes {F : Type 0} (same : F → F → Bool) (before : F → List ℕ) (e : Event F)
     (after : F → List ℕ)
     : Type 0 where
   pub came : (f : F) → came_by (same f) e ≡ take (asked_by (same f) e) (before f)

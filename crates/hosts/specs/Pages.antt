@@ -1,5 +1,5 @@
 -- What stands on a page.
-use Rattle.std.specs.Prelude.{◌≡◌, ℕ, ◌-◌, ◌^◌, List, [], ◌++◌, length, take, drop, min}
+use Rattle.std.specs.Prelude.{◌≡◌, ℕ, ◌-◌, ◌^◌, List, ◌++◌, length, take, drop, min}
 use Rattle.std.specs.Borrow.{MutBor}
 use Rattle.hosts.specs.Events.{Event, printed_by, Call}
 use Rattle.hosts.specs.declared.pages.Page.{Page}
@@ -18,10 +18,6 @@ pub record Shows (lent : MutBor (List ℕ)) (text : List ℕ) (p : Page) : Type 
   pub bytes : p.bytes.now ≡ onto_page text lent.now
   pub len : printed_len p ≡ min (length text) (2 ^ 64 - 1)
   pub lender : p.bytes.ghost_name ≡ lent.ghost_name
-
--- where nothing was shown, this text is
-abbrev pub Filled : Page → Page → List ℕ → Type 0
-Filled p q text = (lent : MutBor (List ℕ)) → Shows lent [] p → Shows lent text q
 
 -- whatever was shown, this text comes behind it
 abbrev pub ShowsBehind : Page → List ℕ → Page → Type 0

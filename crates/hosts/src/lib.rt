@@ -5,8 +5,10 @@ mod copying;
 mod hosts;
 mod memories;
 mod pages;
+mod telling;
 
 pub use copying::copy_front;
 pub use hosts::Host;
 pub use memories::{Files, Memory, read_front};
 pub use pages::Page;
+pub use telling::tell;

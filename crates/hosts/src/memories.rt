@@ -1,6 +1,6 @@
 // Memory as a host.
 ghost use Rattle.std.specs.Prelude.{◌≡◌, ℕ, Bool, List, ◌+◌, ◌≤◌, length, take, drop};
-ghost use Rattle.hosts.specs.Events.{Read, Takes};
+ghost use Rattle.hosts.specs.Events.{Read, TakesBytes};
 
 use crate::copying::copy_front;
 use crate::hosts::Host;
@@ -26,7 +26,7 @@ pub trait Files {
         ensures few { result ≤ length buf.old }
         ensures less { most self.new + result ≤ most self.old }
         ensures taken { let e = Read file (length buf.old) (take result buf.new) in
-            Takes same (left self.old) e (left self.new) };
+            TakesBytes same (left self.old) e (left self.new) };
 }
 
 /// Reads on in what is left of a file until the buffer is full or the file ends: how many bytes came.

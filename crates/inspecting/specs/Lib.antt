@@ -1,2 +1,2 @@
-pub mod OnDisk
-pub mod Statuses
+pub mod FramePaths
+pub mod Runs

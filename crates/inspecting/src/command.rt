@@ -2,9 +2,8 @@
 ghost use Rattle.std.specs.Prelude.{◌≤◌};
 
 use crate::frame_files::inspect_files;
-use commands::{About, Given, given};
-use files::tell;
 use plans::inspect_folder;
+use system::{About, Given, given, tell};
 
 const USAGE: &str = "inspect START.obj END.obj, or inspect [--refused FILE] [FOLDER]";
 

@@ -3,6 +3,9 @@
 
 mod command;
 mod frame_files;
-mod reading;
+mod paths;
+mod runs;
 
 pub use command::inspect_command;
+pub use paths::FramePaths;
+pub use runs::{inspect_on_disk, status};

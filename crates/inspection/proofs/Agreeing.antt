@@ -1,6 +1,6 @@
 -- Two sets that agree on every test: of the tests of a sheet they strike the same at each depth, and
 -- find the same windows and earliest parts.
-use Rattle.std.proofs.Common.{◌≡◌, ℕ, zero, suc, ◌+◌, ◌^◌, ◌<◌, ◌≤◌, Bool, ◌&&◌, cond, Some, None, refl, arith}
+use Rattle.std.proofs.Common.{◌≡◌, ℕ, zero, suc, ◌+◌, ◌^◌, ◌<◌, ◌≤◌, Bool, ◌&&◌, cond, List, Some, None, refl, arith}
 use Rattle.std.specs.Option.{option_or, option_zip}
 use Rattle.motion.specs.declared.shapes.Shape.{Shape}
 use Rattle.motion.specs.Laws.{Valid, InReach, subinterval}
@@ -9,10 +9,23 @@ use Rattle.motion.specs.Earliest.{put_until}
 use Rattle.motion.proofs.Subintervals.{valid-subinterval}
 use Rattle.filters.specs.FirstParts.{earliest_at}
 use Rattle.inspection.specs.Claims.{Agree}
-use Rattle.inspection.specs.Classes.{rules_at}
+use Rattle.inspection.specs.Classes.{rules_at, entries_after, tally_after}
+use Rattle.inspection.specs.Offerings.{Offering}
+use Rattle.inspection.specs.Offers.{entries_by, tally_by}
 use Rattle.inspection.specs.Sheets.{Sheet, point_at}
+use Rattle.inspection.specs.Tallies.{no_tests}
 use Rattle.inspection.specs.Tests.{Naming}
 use Rattle.inspection.proofs.NamingLaws.{NamingLaws}
+
+-- of the tests of one kind, over a sheet at a depth, two sets find the same
+pub record FindSame {E : Type 0} (set set' : Shape → Bool) (n : Naming E) (sheet : Sheet) (d : ℕ) : Type 0 where
+  pub entries : (o : Offering) (es : List E) → entries_by n set' d sheet o es ≡ entries_by n set d sheet o es
+  pub tally : (o : Offering) (es : List E) → tally_by n set' d sheet o es ≡ tally_by n set d sheet o es
+  pub windows : (e : E) → window_at set' d (n.shape sheet e) ≡ window_at set d (n.shape sheet e)
+  pub earliests : (e : E) → earliest_at set' d (n.shape sheet e) ≡ earliest_at set d (n.shape sheet e)
+
+pub itself : {E : Type 0} (set : Shape → Bool) (n : Naming E) (sheet : Sheet) (d : ℕ) → FindSame set set n sheet d
+itself set n sheet d = record { entries = λ o es. refl; tally = λ o es. refl; windows = λ e. refl; earliests = λ e. refl }
 
 -- ---- what is settled by the numbers below n
 module _ (f g : ℕ → Bool) where
@@ -58,15 +71,14 @@ module _ (set set' : Shape → Bool) (same : Agree set set') where
     room : (e : E) → (n.shape sheet e).scale + d ≤ 6
     room e = omega (arith, named.scale e, low)
 
-    pub rules_agree : rules_at n set' d sheet ≡ rules_at n set d sheet
-    rules_agree = λ i. record {
-      shared = n.shared sheet;
-      struck = λ e. struck_agree d (n.shape sheet e) (named.valid near e) (room e) i;
-      same = n.same;
-    }
+    rules : rules_at n set' d sheet ≡ rules_at n set d sheet
+    rules = λ i. record { shared = n.shared sheet; struck = λ e. struck_agree d (n.shape sheet e) (named.valid near e) (room e) i; same = n.same }
 
-    pub windows_agree : (e : E) → window_at set' d (n.shape sheet e) ≡ window_at set d (n.shape sheet e)
-    windows_agree e = window_agree d (n.shape sheet e) (named.valid near e) (room e)
-
-    pub earliests_agree : (e : E) → earliest_at set' d (n.shape sheet e) ≡ earliest_at set d (n.shape sheet e)
-    earliests_agree e = earliest_agree d (n.shape sheet e) (named.valid near e) (room e)
+    pub agreeing : FindSame set set' n sheet d
+    agreeing =
+        record {
+          entries = λ o es i. entries_after (rules i) es (n.tests sheet o);
+          tally = λ o es i. tally_after (rules i) es (n.tests sheet o) no_tests;
+          windows = λ e. window_agree d (n.shape sheet e) (named.valid near e) (room e);
+          earliests = λ e. earliest_agree d (n.shape sheet e) (named.valid near e) (room e);
+        }

@@ -16,7 +16,7 @@ use Rattle.inspection.specs.Lists.{has}
 use Rattle.inspection.specs.Classes.{Rules, rules_at, class_of, entries_after_one, entries_after}
 use Rattle.inspection.specs.Offers.{entries_by}
 use Rattle.inspection.specs.Runs.{Accepted}
-use Rattle.inspection.specs.Claims.{PassedAt, PassedBefore, Before}
+use Rattle.inspection.specs.Claims.{PassedAt, PassedBefore, StandsBefore}
 use Rattle.inspection.proofs.NamingLaws.{NamingLaws}
 
 -- ---- what stands at a number of a list, and what a list has
@@ -45,21 +45,11 @@ module _ {E : Type 0} (same : E → E → Bool) where
 
 -- ---- the order of numbers
 -- before the next number: before this one, or at it
-last : (i j a k : ℕ) → Before i j a (suc k) → Before i j a k ⊎ ((i ≡ a) × (j ≡ k))
+last : (i j a k : ℕ) → StandsBefore i j a (suc k) → StandsBefore i j a k ⊎ ((i ≡ a) × (j ≡ k))
 last i j a k b = grind arith
 
-later : (i j a k : ℕ) → Before i j a k → Before i j a (suc k)
-later i j a k b = grind arith
-
-next_offer : (i j a k : ℕ) → Before i j a k → Before i j (suc a) 0
-next_offer i j a k b = grind arith
-
--- before the next offer: before a number of this one, or among its numbers from there on
-last_offer : (i j a k : ℕ) → Before i j (suc a) 0 → (i ≡ a → j < k) → Before i j a k
-last_offer i j a k b h = grind arith
-
 -- what is before a number is before all that is not
-apart : (p q i j a k : ℕ) → Before p q a k → (Before i j a k → ⊥) → Before p q i j
+apart : (p q i j a k : ℕ) → StandsBefore p q a k → (StandsBefore i j a k → ⊥) → StandsBefore p q i j
 apart p q i j a k b n = grind arith
 
 module _ {E : Type 0} (n : Naming E) (set : Shape → Bool) (sheet : Sheet) where
@@ -78,8 +68,8 @@ module _ {E : Type 0} (n : Naming E) (set : Shape → Bool) (sheet : Sheet) wher
 
     -- of the tests before number k of the offer i
     pub record Upto (i k : ℕ) (es : List E) : Type 0 where
-      pub listed : (e : E) → has n.same e es ≡ true → (p : ℕ) × ((q : ℕ) × (Passed e p q × Before p q i k))
-      pub passed : (e : E) (p q : ℕ) → Passed e p q → Before p q i k → has n.same e es ≡ true
+      pub listed : (e : E) → has n.same e es ≡ true → (p : ℕ) × ((q : ℕ) × (Passed e p q × StandsBefore p q i k))
+      pub passed : (e : E) (p q : ℕ) → Passed e p q → StandsBefore p q i k → has n.same e es ≡ true
       pub order : AllPairs (PassedBefore n set sheet h) es
 
     -- one test more
@@ -87,7 +77,7 @@ module _ {E : Type 0} (n : Naming E) (set : Shape → Bool) (sheet : Sheet) wher
         → ((e : E) → (has n.same e es ≡ true) ⊎ Passed e i k → has n.same e new ≡ true) → AllPairs (PassedBefore n set sheet h) new → Upto i (suc k) new
     more i k es new u old all order =
         record {
-          listed = λ e t. ⊎_elim (λ r. let (p, (q, (w, b))) = u.listed e r in (p, (q, (w, later p q i k b)))) (λ w. (i, (k, (w, grind arith)))) (old e t);
+          listed = λ e t. ⊎_elim (λ r. let (p, (q, (w, b))) = u.listed e r in (p, (q, (w, grind (arith, b))))) (λ w. (i, (k, (w, grind arith)))) (old e t);
           passed = λ e p q w b. all e (⊎_elim (λ c. inl (u.passed e p q w c)) (λ (c, d). inr (subst₂ (Passed e) c d w)) (last p q i k b));
           order = order;
         }
@@ -142,8 +132,8 @@ module _ {E : Type 0} (n : Naming E) (set : Shape → Bool) (sheet : Sheet) wher
       offer es u =
           let all : Upto i (length ts) (entries_after by es ts) = folded (λ old e. entries_after_one (class_of by old e) old e) (Upto i) ts one es u in
           record {
-            listed = λ e t. let (p, (q, (w, b))) = all.listed e t in (p, (q, (w, next_offer p q i (length ts) b)));
-            passed = λ e p q w b. all.passed e p q w (last_offer p q i (length ts) b (within e p q w));
+            listed = λ e t. let (p, (q, (w, b))) = all.listed e t in (p, (q, (w, grind (arith, b))));
+            passed = λ e p q w b. all.passed e p q w (grind (arith, b, within e p q w));
             order = all.order;
           }
         where

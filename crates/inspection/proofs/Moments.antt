@@ -11,6 +11,7 @@ use Rattle.sheet.specs.declared.rows.Face.{Face}
 use Rattle.motion.specs.declared.shapes.Shape.{Shape}
 use Rattle.motion.specs.Laws.{InReach}
 use Rattle.motion.specs.Depths.{struck_at}
+use Rattle.inspection.specs.declared.lists.Lists.{Lists}
 use Rattle.inspection.specs.declared.names.VfName.{VfName}
 use Rattle.inspection.specs.declared.names.EeName.{EeName}
 use Rattle.inspection.specs.declared.faults.TakingFault.{TakingFault}
@@ -18,16 +19,15 @@ use Rattle.inspection.specs.declared.slips.Handed.{Handed}
 use Rattle.inspection.specs.declared.slips.RefusedSlip.{RefusedSlip}
 use Rattle.inspection.specs.declared.slips.Slip.{Slip}
 use Rattle.inspection.specs.declared.classes.Tally.{Tally}
-use Rattle.inspection.specs.Lists.{Contents}
-use Rattle.inspection.specs.Slips.{Lists, Takes, HandsInAt}
+use Rattle.inspection.specs.Slips.{Takes, HandsInAt}
 use Rattle.motion.specs.declared.shapes.Kind.{Kind}
 use Rattle.motion.specs.declared.shapes.Kind.TheVariants.{Vf, Ee}
-use Rattle.inspection.specs.Tallies.{no_tests, total, with_one_more, sum_of, tally_in}
+use Rattle.inspection.specs.Tallies.{no_tests, tests_counted, with_one_more, sum_of, tally_in}
 use Rattle.inspection.specs.Offerings.{Offering, Faces}
 use Rattle.inspection.specs.Sheets.{Sheet, sheet_in, moving_of, point_at}
 use Rattle.inspection.specs.Tests.{Naming, vf_naming, ee_naming}
 use Rattle.inspection.specs.Classes.{Rules, rules_at, class_of, entries_after_one, entries_after, tally_after}
-use Rattle.inspection.specs.States.{Core, State, lists_in}
+use Rattle.inspection.specs.States.{Core, State}
 use Rattle.inspection.specs.Offers.{entries_by, tally_by, state_after, offer_checks}
 use Rattle.inspection.specs.Runs.{depth_checks, Accepted, Brings, Run}
 use Rattle.inspection.specs.Runs.Run.{opened, depth_set, offered, taken, handed_in, asked}
@@ -53,7 +53,7 @@ module _ {E : Type 0} (j : Rules E) where
 -- what is listed of them, and how they are counted
 pub record KindSoFar {E : Type 0} (n : Naming E) (each : ℕ) (set : Shape → Bool) (sheet : Sheet) (h : List Accepted) (es : List E) (t : Tally) : Type 0 where
   pub entries : es ≡ listing n set sheet h
-  pub classes : total t ≡ each * length h
+  pub classes : tests_counted t ≡ each * length h
   pub counts : CountsOfKind n set sheet h es t
 
 module _ {E : Type 0} (n : Naming E) (each : ℕ) (set : Shape → Bool) (sheet : Sheet) where
@@ -67,7 +67,7 @@ module _ {E : Type 0} (n : Naming E) (each : ℕ) (set : Shape → Bool) (sheet 
       let ts : List E = n.tests sheet o.what in
       record {
         entries = ap (entries_by n set o.depth sheet o.what) k.entries ∙ sym (fold_push (λ es o. entries_by n set o.depth sheet o.what es) [] h o);
-        classes = omega (arith, tallied j (λ t. total t) (λ e. true) (λ es e t. grind arith) es ts no_tests, k.classes, named.many o.what, ap (λ (m : ℕ). each * m) (length_push h o));
+        classes = omega (arith, tallied j (λ t. tests_counted t) (λ e. true) (λ es e t. grind arith) es ts no_tests, k.classes, named.many o.what, ap (λ (m : ℕ). each * m) (length_push h o));
         counts = record {
           shared = omega (arith, tallied j (λ t. t.shared) j.shared (λ es e t. grind arith) es ts no_tests, k.counts.shared, more (λ o e. n.shared sheet e));
           struck = omega (arith, tallied j (λ t. t.struck) (λ e. not (j.shared e) && j.struck e) (λ es e t. grind arith) es ts no_tests, k.counts.struck, more (λ o e. not (n.shared sheet e) && struck_at set o.depth (n.shape sheet e)));
@@ -115,30 +115,26 @@ pub record Moment (set : Shape → Bool) (d : Draft) (sheet : Sheet) (h : List A
 
 module _ (set : Shape → Bool) (d : Draft) (sheet : Sheet) where
   abbrev At : List Accepted → State → Type 0
-  At h s = Moment set d sheet h s.core s.vf.entries s.ee.entries
+  At h s = Moment set d sheet h s.core s.lists.vf.entries s.lists.ee.entries
 
   -- marks change no entry
   taken-entries : (l : Kind) (i q : ℕ) (s : Lists) (r : Result Slip TakingFault) (t : Lists) → Takes l i q s r t → (t.vf.entries ≡ s.vf.entries) × (t.ee.entries ≡ s.ee.entries)
-  taken-entries Vf i q s (Ok x) t (a, e) = (ap (λ (h : Contents VfName). h.entries) a.list, ap (λ (h : Contents EeName). h.entries) e)
-  taken-entries Vf i q s (Err x) t (a, e) = (ap (λ (h : Contents VfName). h.entries) a.list, ap (λ (h : Contents EeName). h.entries) e)
-  taken-entries Ee i q s (Ok x) t (a, v) = (ap (λ (h : Contents VfName). h.entries) v, ap (λ (h : Contents EeName). h.entries) a.list)
-  taken-entries Ee i q s (Err x) t (a, v) = (ap (λ (h : Contents VfName). h.entries) v, ap (λ (h : Contents EeName). h.entries) a.list)
+  taken-entries Vf i q s r t (a, e) = grind (arith, a.list, e)
+  taken-entries Ee i q s r t (a, v) = grind (arith, a.list, v)
 
   handed-entries : (l : Kind) (x : Slip) (how : Handed) (s : Lists) (r : Result (Unit {0}) RefusedSlip) (t : Lists) → HandsInAt l x how s r t
       → (t.vf.entries ≡ s.vf.entries) × (t.ee.entries ≡ s.ee.entries)
-  handed-entries Vf x how s (Ok u) t (a, e) = (ap (λ (h : Contents VfName). h.entries) a.list, ap (λ (h : Contents EeName). h.entries) e)
-  handed-entries Vf x how s (Err y) t (a, e) = (ap (λ (h : Contents VfName). h.entries) a.list, ap (λ (h : Contents EeName). h.entries) e)
-  handed-entries Ee x how s (Ok u) t (a, v) = (ap (λ (h : Contents VfName). h.entries) v, ap (λ (h : Contents EeName). h.entries) a.list)
-  handed-entries Ee x how s (Err y) t (a, v) = (ap (λ (h : Contents VfName). h.entries) v, ap (λ (h : Contents EeName). h.entries) a.list)
+  handed-entries Vf x how s r t (a, e) = grind (arith, a.list, e)
+  handed-entries Ee x how s r t (a, v) = grind (arith, a.list, v)
 
   pub moment : {h : List Accepted} {out : List Slip} {s : State} → Run set d sheet h out s → At h s
   moment (opened {s} o) =
       rw (o.core, o.vf, o.ee)
       (record { draft = refl; depth = o.depth; offers = refl; each = All-nil (OfferFacts sheet); vf = none_yet vf_naming 6 set sheet; ee = none_yet ee_naming 9 set sheet })
-  moment (depth_set {h} {out} {s} k (Ok tt) t run a v e) =
+  moment (depth_set {h} {out} {s} k (Ok tt) t run a e) =
       let m : At h s = moment run in
-      rw (a.core, v, e) (record { draft = m.draft; depth = ltb-false 6 k (none_fits (depth_checks k) (sym a.fault)).0; offers = m.offers; each = m.each; vf = m.vf; ee = m.ee })
-  moment (depth_set {h} {out} {s} k (Err x) t run a v e) = rw (a.core, v, e) (moment run)
+      rw (a.core, e) (record { draft = m.draft; depth = ltb-false 6 k (none_fits (depth_checks k) (sym a.fault)).0; offers = m.offers; each = m.each; vf = m.vf; ee = m.ee })
+  moment (depth_set {h} {out} {s} k (Err x) t run a e) = rw (a.core, e) (moment run)
   moment (offered {h} {out} {s} ps fs w (Ok tt) t run b a) =
       let m : At h s = moment run in
       let o : Accepted = record { what = w; depth = s.core.depth } in
@@ -150,10 +146,10 @@ module _ (set : Shape → Bool) (d : Draft) (sheet : Sheet) where
         depth = m.depth;
         offers = omega (arith, m.offers, length_push h o);
         each = All-push (OfferFacts sheet) h o m.each (subst (λ (z : Sheet). OfferFacts z o) brought (offer_facts set s ps fs w m.depth none));
-        vf = one_more vf_naming 6 set sheet (vf_laws sheet) h o s.vf.entries (tally_in Vf s.core.tallies) m.vf;
-        ee = one_more ee_naming 9 set sheet (ee_laws sheet) h o s.ee.entries (tally_in Ee s.core.tallies) m.ee;
+        vf = one_more vf_naming 6 set sheet (vf_laws sheet) h o s.lists.vf.entries (tally_in Vf s.core.tallies) m.vf;
+        ee = one_more ee_naming 9 set sheet (ee_laws sheet) h o s.lists.ee.entries (tally_in Ee s.core.tallies) m.ee;
       })
   moment (offered {h} {out} {s} ps fs w (Err x) t run b a) = rw a.state (moment run)
-  moment (taken {h} {out} {s} l i q r t run a c) = let e = taken-entries l i q (lists_in s) r (lists_in t) a in rw (c, e.0, e.1) (moment run)
-  moment (handed_in {h} {s} before after x how r t run a c) = let e = handed-entries x.list x how (lists_in s) r (lists_in t) a in rw (c, e.0, e.1) (moment run)
+  moment (taken {h} {out} {s} l i q r t run a c) = let e = taken-entries l i q s.lists r t.lists a in rw (c, e.0, e.1) (moment run)
+  moment (handed_in {h} {s} before after x how r t run a c) = let e = handed-entries x.list x how s.lists r t.lists a in rw (c, e.0, e.1) (moment run)
   moment (asked {h} {out} {s} t run e) = rw e (moment run)

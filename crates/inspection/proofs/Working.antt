@@ -1,30 +1,20 @@
 -- Working through requests is a run, and its accepted offers are the run's history.
-use Rattle.std.proofs.Common.{◌≡◌, ℕ, ◌+◌, Bool, cond, is_ok, List, [], ◌∷◌, ◌++◌, Result, sym, refl, ap, ◌∙◌, subst, subst₂, ◌<◌, length, get_or, take, drop, set as list_set, arith}
+use Rattle.std.proofs.Common.{◌≡◌, ℕ, ◌+◌, Bool, cond, is_ok, List, [], ◌∷◌, ◌++◌, sym, refl, ap, ◌∙◌, subst, ◌<◌, length, get_or, take, drop, set as list_set, arith}
 use Rattle.std.proofs.lemmas.List.{take_more, take_more_set, drop-set-lt, drop-drop}
 use Rattle.sheet.specs.declared.drafts.Draft.{Draft}
 use Rattle.sheet.specs.declared.rows.Point.{Point}
 use Rattle.sheet.specs.declared.rows.Face.{Face}
 use Rattle.motion.specs.declared.shapes.Shape.{Shape}
-use Rattle.inspection.specs.declared.faults.OpeningFault.{OpeningFault}
-use Rattle.inspection.specs.declared.faults.OfferFault.{OfferFault}
 use Rattle.inspection.specs.declared.requests.Request.{Request}
 use Rattle.inspection.specs.declared.requests.Request.TheVariants as request
 use Rattle.inspection.specs.declared.requests.Answer.{Answer}
 use Rattle.motion.specs.declared.shapes.Kind.TheVariants.{Vf, Ee}
-use Rattle.inspection.specs.Offerings.{Offering}
 use Rattle.inspection.specs.Sheets.{sheet_in}
 use Rattle.inspection.specs.States.{State}
-use Rattle.inspection.specs.Offers.{OfferCall}
-use Rattle.inspection.specs.Runs.{Accepted, history_after, Run, depth_set, offered, asked, DepthCall}
+use Rattle.inspection.specs.Runs.{Accepted, history_after, Run, depth_set, offered, asked}
 use Rattle.inspection.specs.Requests.{RequestCall, Calls, history_from}
 
 module _ (set : Shape → Bool) (ps : List Point) (fs : List Face) where
-  depth-after : (s t : State) (k : ℕ) (r : Result (Unit {0}) OpeningFault) → DepthCall k s.core r t.core → t.core.depth ≡ cond (is_ok r) k s.core.depth
-  depth-after s t k r a = grind (arith, a.core)
-
-  offer-depth : (o : Offering) (s t : State) (r : Result (Unit {0}) OfferFault) → OfferCall set ps fs o s r t → t.core.depth ≡ s.core.depth
-  offer-depth o s t r a = grind (arith, a.state)
-
   -- ---- a run goes on by what is worked
   module _ (d : Draft) where
     abbrev Runs : List Accepted → State → Type 0
@@ -34,21 +24,16 @@ module _ (set : Shape → Bool) (ps : List Point) (fs : List Face) where
     worked-runs h [] [] s t r w = asked t r w
     worked-runs h [] (a ∷ rs) s t r w = absurd w
     worked-runs h (q ∷ qs) [] s t r w = absurd w
-    worked-runs h (request.SetDepth k ∷ qs) (a ∷ rs) s t r (u, ((x, (e, b, v, f)), w)) =
-        subst (λ (y : Answer). Runs (history_from h s.core.depth (request.SetDepth k ∷ qs) (y ∷ rs)) t) (sym e)
-        (subst (λ (m : ℕ). Runs (history_from h m qs rs) t) (depth-after s u k x b) (worked-runs h qs rs u t (depth_set k x u r b v f) w))
+    worked-runs h (request.SetDepth k ∷ qs) (a ∷ rs) s t r (u, ((x, (e, b, v)), w)) =
+        let depth : u.core.depth ≡ cond (is_ok x) k s.core.depth = grind (arith, b.core) in
+        rw (e, sym depth) (worked-runs h qs rs u t (depth_set k x u r b v) w)
     worked-runs h (request.Offer o ∷ qs) (a ∷ rs) s t r (u, ((x, (e, b)), w)) =
-        let more : List Accepted = history_after h o s.core.depth x in
-        subst (λ (y : Answer). Runs (history_from h s.core.depth (request.Offer o ∷ qs) (y ∷ rs)) t) (sym e)
-        (subst (λ (m : ℕ). Runs (history_from more m qs rs) t) (offer-depth o s u x b) (worked-runs more qs rs u t (offered ps fs o x u r (λ b. refl) b) w))
-    worked-runs h (request.Window Vf i ∷ qs) (a ∷ rs) s t r (u, ((x, (e, b, v)), w)) =
-        subst₂ (λ (y : Answer) (z : State). Runs (history_from h z.core.depth (request.Window Vf i ∷ qs) (y ∷ rs)) t) (sym e) v (worked-runs h qs rs u t (asked u r v) w)
-    worked-runs h (request.Window Ee i ∷ qs) (a ∷ rs) s t r (u, ((x, (e, b, v)), w)) =
-        subst₂ (λ (y : Answer) (z : State). Runs (history_from h z.core.depth (request.Window Ee i ∷ qs) (y ∷ rs)) t) (sym e) v (worked-runs h qs rs u t (asked u r v) w)
-    worked-runs h (request.Earliest Vf i ∷ qs) (a ∷ rs) s t r (u, ((x, (e, b, v)), w)) =
-        subst₂ (λ (y : Answer) (z : State). Runs (history_from h z.core.depth (request.Earliest Vf i ∷ qs) (y ∷ rs)) t) (sym e) v (worked-runs h qs rs u t (asked u r v) w)
-    worked-runs h (request.Earliest Ee i ∷ qs) (a ∷ rs) s t r (u, ((x, (e, b, v)), w)) =
-        subst₂ (λ (y : Answer) (z : State). Runs (history_from h z.core.depth (request.Earliest Ee i ∷ qs) (y ∷ rs)) t) (sym e) v (worked-runs h qs rs u t (asked u r v) w)
+        let depth : u.core.depth ≡ s.core.depth = grind (arith, b.state) in
+        rw e (subst (λ (m : ℕ). Runs (history_from (history_after h o s.core.depth x) m qs rs) t) depth (worked-runs (history_after h o s.core.depth x) qs rs u t (offered ps fs o x u r (λ b. refl) b) w))
+    worked-runs h (request.Window Vf i ∷ qs) (a ∷ rs) s t r (u, ((x, (e, b, v)), w)) = rw (sym v) (worked-runs h qs rs u t (asked u r v) w)
+    worked-runs h (request.Window Ee i ∷ qs) (a ∷ rs) s t r (u, ((x, (e, b, v)), w)) = rw (sym v) (worked-runs h qs rs u t (asked u r v) w)
+    worked-runs h (request.Earliest Vf i ∷ qs) (a ∷ rs) s t r (u, ((x, (e, b, v)), w)) = rw (sym v) (worked-runs h qs rs u t (asked u r v) w)
+    worked-runs h (request.Earliest Ee i ∷ qs) (a ∷ rs) s t r (u, ((x, (e, b, v)), w)) = rw (sym v) (worked-runs h qs rs u t (asked u r v) w)
 
   -- ---- one request more, worked at the end
   pub worked-more : (qs : List Request) (rs : List Answer) (q : Request) (a : Answer) (s t u : State)

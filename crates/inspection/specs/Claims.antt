@@ -1,5 +1,5 @@
--- The claim: what a run's lists and counts say of every test that its accepted offers hold,
--- and of another run over the same sheet.
+-- The claim: what a run's lists and counts say of every test that its accepted offers hold, and
+-- beside it of another claim over the same sheet.
 use Rattle.std.specs.Prelude.{◌≡◌, ◌⊎◌, ◌↔◌, ℕ, ◌+◌, ◌*◌, ◌<◌, ◌≤◌, Bool, IsTrue, IsFalse, not, ◌&&◌, List, All, Any, AllPairs, length, count_by, Some, slice_get}
 use Rattle.std.specs.List.{sum_by}
 use Rattle.sheet.specs.declared.drafts.Draft.{Draft}
@@ -11,7 +11,7 @@ use Rattle.motion.specs.declared.shapes.Kind.TheVariants.{Vf, Ee}
 use Rattle.inspection.specs.declared.names.VfName.{VfName}
 use Rattle.inspection.specs.declared.names.EeName.{EeName}
 use Rattle.inspection.specs.declared.slips.Slip.{Slip}
-use Rattle.inspection.specs.Tallies.{total, tally_in}
+use Rattle.inspection.specs.Tallies.{tests_counted, tally_in}
 use Rattle.inspection.specs.Offerings.{Offering, Faces, SameOffering}
 use Rattle.inspection.specs.Sheets.{Sheet, face_at}
 use Rattle.inspection.specs.Tests.{Naming, vf_naming, ee_naming, corners_inside}
@@ -20,8 +20,8 @@ use Rattle.inspection.specs.States.{Core, State}
 use Rattle.inspection.specs.Runs.{Accepted, Run}
 
 -- by offer, then in the order of an offer's tests
-abbrev pub Before : ℕ → ℕ → ℕ → ℕ → Type 0
-Before i j k l = (i < k) ⊎ ((i ≡ k) × (j < l))
+abbrev pub StandsBefore : ℕ → ℕ → ℕ → ℕ → Type 0
+StandsBefore i j k l = (i < k) ⊎ ((i ≡ k) × (j < l))
 
 -- of the tests of one kind that the accepted offers hold, how many there are of which p holds
 abbrev pub how_many : {E : Type 0} → Naming E → Sheet → List Accepted → (Accepted → E → Bool) → ℕ
@@ -45,7 +45,7 @@ module _
   abbrev pub PassedBefore : E → E → Type 0
   PassedBefore x y =
       (i : ℕ) × ((j : ℕ)
-      × (PassedAt x i j × ((k l : ℕ) → PassedAt y k l → Before i j k l)))
+      × (PassedAt x i j × ((k l : ℕ) → PassedAt y k l → StandsBefore i j k l)))
 
   -- how they are counted: each in one class
   pub record CountsOfKind (es : List E) (t : Tally) : Type 0 where
@@ -69,7 +69,7 @@ module _
     -- the entries stand in the order of first passing
     pub order : AllPairs PassedBefore es
     -- each test is counted
-    pub classes : total t ≡ each * length history
+    pub classes : tests_counted t ≡ each * length history
     pub counts : CountsOfKind es t
 
 -- two sets that agree on every test
@@ -103,19 +103,25 @@ pub record Claim
   pub draft : core.draft ≡ d
   pub vf : ClaimOfKind vf_naming set sheet history 6 vfs (tally_in Vf core.tallies)
   pub ee : ClaimOfKind ee_naming set sheet history 9 ees (tally_in Ee core.tallies)
-  -- another run over the same sheet, of any draft, by a filter of the same set, lists nothing that
-  -- is lacking here, where its offers were accepted here
-  pub again : (set' : Shape → Bool) → Agree set set'
-      → (d' : Draft) (other : List Accepted) (out : List Slip) (t : State)
-      → Run set' d' sheet other out t
-      → MatchesOffers history other
-      → Covers vf_naming.same vfs t.vf.entries
-      × Covers ee_naming.same ees t.ee.entries
   pub of_sheet : All (λ o. OfSheet sheet o.what) history
+  pub depths : All (λ o. o.depth ≤ 6) history
   pub offers : core.accepted ≡ length history
+
+-- the claim, and what stands beside it
+pub record WholeClaim
+    (set : Shape → Bool) (d : Draft) (sheet : Sheet) (history : List Accepted)
+    (core : Core) (vfs : List VfName) (ees : List EeName) : Type 0 where
+  pub claim : Claim set d sheet history core vfs ees
+  -- another claim over the same sheet, of any draft, by a set that agrees, lists nothing that is
+  -- lacking here, where its offers were accepted here
+  pub again : (set' : Shape → Bool) → Agree set set'
+      → (d' : Draft) (other : List Accepted) (core' : Core) (vfs' : List VfName) (ees' : List EeName)
+      → Claim set' d' sheet other core' vfs' ees' → MatchesOffers history other
+      → Covers vf_naming.same vfs vfs' × Covers ee_naming.same ees ees'
 
 -- what every run that ends in this state has found
 abbrev pub Findings : (Shape → Bool) → State → Type 0
 Findings set s =
     (d : Draft) (sheet : Sheet) (history : List Accepted) (out : List Slip)
-    → Run set d sheet history out s → Claim set d sheet history s.core s.vf.entries s.ee.entries
+    → Run set d sheet history out s
+    → WholeClaim set d sheet history s.core s.lists.vf.entries s.lists.ee.entries

@@ -7,7 +7,6 @@ pub mod Lists
 pub mod Offerings
 pub mod Tests
 pub mod Classes
-pub mod Judges
 pub mod Faults
 pub mod Slips
 pub mod States
@@ -19,3 +18,4 @@ pub mod Alike
 pub mod Claims
 pub mod SlipsOut
 pub mod Blind
+pub mod inner

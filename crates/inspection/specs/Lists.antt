@@ -1,7 +1,6 @@
 -- What a list holds.
-use Rattle.std.specs.Prelude.{ℕ, ◌-◌, Bool, List, [], ◌∷◌, ◌++◌, length, take, drop, map, replicate}
+use Rattle.std.specs.Prelude.{ℕ, ◌-◌, Bool, List, [], ◌∷◌, ◌++◌, length, drop, map, replicate}
 use Rattle.std.specs.List.{list_any}
-use Rattle.inspection.specs.declared.lists.List.{List as Listing}
 use Rattle.inspection.specs.declared.marks.Mark.{Mark}
 use Rattle.inspection.specs.declared.marks.Mark.TheVariants.{Free}
 use Rattle.inspection.specs.declared.marks.Marked.{Marked}
@@ -12,6 +11,10 @@ pub record Contents (E : Type 0) : Type 0 where
   pub marks : List Mark
   pub rest : List (Marked E)
   pub lender : ℕ
+
+-- of a table in which no entry stands yet
+abbrev pub empty_over : {E : Type 0} → List (Marked E) → ℕ → Contents E
+empty_over table lender = record { entries = []; marks = []; rest = table; lender = lender }
 
 abbrev pub names : {E : Type 0} → List (Marked E) → List E
 names places = map (λ p. p.name) places
@@ -24,19 +27,6 @@ abbrev pub places : {E : Type 0} → List E → List Mark → List (Marked E)
 places [] ms = []
 places (e ∷ es) [] = []
 places (e ∷ es) (m ∷ ms) = record { name = e; mark = m } ∷ places es ms
-
-abbrev pub contents_of : {E : Type 0} → Listing E → Contents E
-contents_of l =
-    let table = l.table.now in
-    record {
-      entries = names (take l.len table);
-      marks = marks (take l.len table);
-      rest = drop l.len table;
-      lender = l.table.ghost_name;
-    }
-
-abbrev pub entries : {E : Type 0} → Listing E → List E
-entries l = (contents_of l).entries
 
 -- grown to these entries: the new ones are free
 abbrev pub grown_to : {E : Type 0} → List E → Contents E → Contents E

@@ -9,7 +9,7 @@ use Rattle.motion.specs.declared.shapes.Shape.{Shape}
 use Rattle.inspection.specs.declared.classes.Tally.{Tally}
 use Rattle.inspection.specs.declared.faults.OfferFault.{OfferFault}
 use Rattle.inspection.specs.Faults.{notice_of_offer}
-use Rattle.inspection.specs.Tallies.{no_tests, total}
+use Rattle.inspection.specs.Tallies.{no_tests}
 use Rattle.inspection.specs.Offerings.{Offering, Faces}
 use Rattle.inspection.specs.Sheets.{Sheet, sheet_in, face_at}
 use Rattle.inspection.specs.Tests.{Naming, corners_below, vf_naming, ee_naming}
@@ -32,12 +32,6 @@ module _ {E : Type 0} (n : Naming E) (set : Shape → Bool) (k : ℕ) (sheet : S
 
   abbrev pub tally_by : List E → Tally
   tally_by es = tally_after (rules_at n set k sheet) es (n.tests sheet o) no_tests
-
-  -- of these entries: the new ones that go behind them, and the tally of all
-  pub record Outcome (es new : List E) (t : Tally) : Type 0 where
-    pub entries : es ++ new ≡ entries_by es
-    pub tally : t ≡ tally_by es
-    pub total : total t ≡ length (n.tests sheet o)
 
   -- less room than new entries
   abbrev pub lacks_room : Contents E → Bool
@@ -62,7 +56,7 @@ checks_but_room d ps fs o accepted =
 abbrev pub room_check : (Shape → Bool) → Sheet → Offering → State → Check
 room_check set sheet o s =
     let k = s.core.depth in
-    let full = lacks_room vf_naming set k sheet o s.vf || lacks_room ee_naming set k sheet o s.ee in
+    let full = lacks_room vf_naming set k sheet o s.lists.vf || lacks_room ee_naming set k sheet o s.lists.ee in
     check full 21 Offer 0 0
 
 abbrev pub offer_checks : (Shape → Bool) → List Point → List Face → Offering → State → List Check
@@ -74,12 +68,14 @@ offer_checks set ps fs o s =
 abbrev pub state_after : (Shape → Bool) → Sheet → Offering → State → State
 state_after set sheet o s =
     let k = s.core.depth in
-    let vf_tally = tally_by vf_naming set k sheet o s.vf.entries in
-    let ee_tally = tally_by ee_naming set k sheet o s.ee.entries in
+    let vf_tally = tally_by vf_naming set k sheet o s.lists.vf.entries in
+    let ee_tally = tally_by ee_naming set k sheet o s.lists.ee.entries in
     record {
       core = with_counts vf_tally ee_tally s.core;
-      vf = grown_to (entries_by vf_naming set k sheet o s.vf.entries) s.vf;
-      ee = grown_to (entries_by ee_naming set k sheet o s.ee.entries) s.ee;
+      lists = record {
+        vf = grown_to (entries_by vf_naming set k sheet o s.lists.vf.entries) s.lists.vf;
+        ee = grown_to (entries_by ee_naming set k sheet o s.lists.ee.entries) s.lists.ee;
+      };
     }
 
 -- offered to a filter's set over these tables, in the state s: r is answered, and t left

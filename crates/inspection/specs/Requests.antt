@@ -23,21 +23,21 @@ module _ (set : Shape → Bool) (ps : List Point) (fs : List Face) where
   abbrev pub RequestCall : Request → Answer → State → State → Type 0
   RequestCall (request.SetDepth k) a s t =
       (r : Result (Unit {0}) OpeningFault) × ((a ≡ answer.DepthSet r)
-      × DepthCall k s.core r t.core × (t.vf ≡ s.vf) × (t.ee ≡ s.ee))
+      × DepthCall k s.core r t.core × (t.lists ≡ s.lists))
   RequestCall (request.Offer o) a s t =
       (r : Result (Unit {0}) OfferFault) × ((a ≡ answer.Offered r) × OfferCall set ps fs o s r t)
   RequestCall (request.Window Vf i) a s t =
       (r : Result (Option (ℕ × ℕ)) WindowFault) × ((a ≡ answer.Window r)
-      × WindowAnswer vf_naming ps fs s.core s.vf i set r × (t ≡ s))
+      × WindowAnswer vf_naming ps fs s.core s.lists.vf i set r × (t ≡ s))
   RequestCall (request.Window Ee i) a s t =
       (r : Result (Option (ℕ × ℕ)) WindowFault) × ((a ≡ answer.Window r)
-      × WindowAnswer ee_naming ps fs s.core s.ee i set r × (t ≡ s))
+      × WindowAnswer ee_naming ps fs s.core s.lists.ee i set r × (t ≡ s))
   RequestCall (request.Earliest Vf i) a s t =
       (r : Result Earliest WindowFault) × ((a ≡ answer.Earliest r)
-      × EarliestAnswer vf_naming ps fs s.core s.vf i set r × (t ≡ s))
+      × EarliestAnswer vf_naming ps fs s.core s.lists.vf i set r × (t ≡ s))
   RequestCall (request.Earliest Ee i) a s t =
       (r : Result Earliest WindowFault) × ((a ≡ answer.Earliest r)
-      × EarliestAnswer ee_naming ps fs s.core s.ee i set r × (t ≡ s))
+      × EarliestAnswer ee_naming ps fs s.core s.lists.ee i set r × (t ≡ s))
 
   -- as many answers as requests, each by one call, from s to t
   abbrev pub Calls : List Request → List Answer → State → State → Type 0

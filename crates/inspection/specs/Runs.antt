@@ -18,7 +18,7 @@ use Rattle.inspection.specs.Faults.{notice_of_opening}
 use Rattle.inspection.specs.Offerings.{Offering}
 use Rattle.inspection.specs.Sheets.{Sheet, sheet_in}
 use Rattle.inspection.specs.Slips.{Takes, HandsIn, out_after_taking, out_after_return}
-use Rattle.inspection.specs.States.{Core, State, core_at_start, with_depth, lists_in}
+use Rattle.inspection.specs.States.{Core, State, core_at_start, with_depth}
 use Rattle.inspection.specs.Offers.{lacks_rows, OfferCall}
 
 -- ---- openings, and depths set later
@@ -29,10 +29,10 @@ depth_checks k = check (nat_lt 6 k) 15 Opening k 0 ∷ []
 pub record Opened (d : Draft) (s : State) : Type 0 where
   pub depth : s.core.depth ≤ 6
   pub core : s.core ≡ core_at_start d s.core.depth
-  pub vf : s.vf.entries ≡ []
-  pub ee : s.ee.entries ≡ []
-  pub vf_marks : s.vf.marks ≡ []
-  pub ee_marks : s.ee.marks ≡ []
+  pub vf : s.lists.vf.entries ≡ []
+  pub ee : s.lists.ee.entries ≡ []
+  pub vf_marks : s.lists.vf.marks ≡ []
+  pub ee_marks : s.lists.ee.marks ≡ []
 
 -- the depth k is set: r is answered, and it goes from the one to the other
 pub record DepthCall
@@ -64,7 +64,7 @@ pub data Run (set : Shape → Bool) (d : Draft) (sheet : Sheet)
   -- the depth is set, or that is refused
   depth_set : {h : List Accepted} {out : List Slip} {s : State}
       (k : ℕ) (r : Result (Unit {0}) OpeningFault) (t : State)
-      → Run set d sheet h out s → DepthCall k s.core r t.core → t.vf ≡ s.vf → t.ee ≡ s.ee
+      → Run set d sheet h out s → DepthCall k s.core r t.core → t.lists ≡ s.lists
       → Run set d sheet h out t
   -- something is offered, over tables that bring the sheet; it is accepted or refused
   offered : {h : List Accepted} {out : List Slip} {s : State}
@@ -75,14 +75,14 @@ pub data Run (set : Shape → Bool) (d : Draft) (sheet : Sheet)
   -- an entry is taken, or that is refused
   taken : {h : List Accepted} {out : List Slip} {s : State}
       (l : Kind) (i q : ℕ) (r : Result Slip TakingFault) (t : State)
-      → Run set d sheet h out s → Takes l i q (lists_in s) r (lists_in t) → t.core ≡ s.core
+      → Run set d sheet h out s → Takes l i q s.lists r t.lists → t.core ≡ s.core
       → Run set d sheet h (out_after_taking out r) t
   -- one of the slips that are out is handed in, or comes back
   handed_in : {h : List Accepted} {s : State}
       (before after : List Slip) (x : Slip) (how : Handed)
       (r : Result (Unit {0}) RefusedSlip) (t : State)
       → Run set d sheet h (before ++ (x ∷ after)) s
-      → HandsIn x how (lists_in s) r (lists_in t) → t.core ≡ s.core
+      → HandsIn x how s.lists r t.lists → t.core ≡ s.core
       → Run set d sheet h (out_after_return before x after r) t
   -- a question: any call that leaves all of this as it was, and the slips that are out
   asked : {h : List Accepted} {out : List Slip} {s : State} (t : State)

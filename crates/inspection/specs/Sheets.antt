@@ -33,11 +33,11 @@ abbrev pub sheet_of_rows : Rows → Sheet
 sheet_of_rows r = sheet_of r.points.now r.faces.now
 
 -- past the end of a table: never asked for
-abbrev pub origin : Coords
-origin = record { x = pos 0; y = pos 0; z = pos 0 }
+abbrev pub no_position : Coords
+no_position = record { x = pos 0; y = pos 0; z = pos 0 }
 
 abbrev pub nowhere : Point
-nowhere = record { start = origin; end = origin }
+nowhere = record { start = no_position; end = no_position }
 
 abbrev pub no_face : Face
 no_face = record { a = 0; b = 0; c = 0 }

@@ -6,18 +6,16 @@ use Rattle.motion.specs.declared.shapes.Kind.{Kind}
 use Rattle.motion.specs.declared.shapes.Kind.TheVariants.{Vf, Ee}
 use Rattle.inspection.specs.declared.faults.TakingFault.{TakingFault}
 use Rattle.inspection.specs.declared.faults.StandingFault.{StandingFault}
-use Rattle.inspection.specs.declared.lists.List.{List as Listing}
+use Rattle.inspection.specs.declared.lists.Lists.{Lists}
 use Rattle.inspection.specs.declared.marks.Mark.{Mark}
 use Rattle.inspection.specs.declared.marks.Mark.TheVariants.{Free, Taken, Seen}
 use Rattle.inspection.specs.declared.marks.Standing.{Standing}
-use Rattle.inspection.specs.declared.names.VfName.{VfName}
-use Rattle.inspection.specs.declared.names.EeName.{EeName}
 use Rattle.inspection.specs.declared.slips.Handed.{Handed}
 use Rattle.inspection.specs.declared.slips.Handed.TheVariants as handed
 use Rattle.inspection.specs.declared.slips.RefusedSlip.{RefusedSlip}
 use Rattle.inspection.specs.declared.slips.Slip.{Slip}
 use Rattle.inspection.specs.Faults.{notice_of_taking, notice_of_return, notice_of_standing}
-use Rattle.inspection.specs.Lists.{Contents, contents_of}
+use Rattle.inspection.specs.Lists.{Contents}
 use Rattle.inspection.specs.Marks.{mark_at, is_free, is_taken_by, standing_of}
 
 -- with list, entry and reviewer on it
@@ -74,13 +72,6 @@ module _ {E : Type 0} where
     pub value : IfOk r (λ x. x ≡ standing_of (mark_at h.marks i))
 
 -- ---- at both lists
-pub record Lists : Type 0 where
-  pub vf : Contents VfName
-  pub ee : Contents EeName
-
-abbrev pub lists_of : Listing VfName → Listing EeName → Lists
-lists_of vf ee = record { vf = contents_of vf; ee = contents_of ee }
-
 abbrev pub marks_in : Kind → Lists → List Mark
 marks_in Vf s = s.vf.marks
 marks_in Ee s = s.ee.marks

@@ -9,8 +9,8 @@ use Rattle.motion.specs.declared.shapes.Kind.TheVariants.{Vf, Ee}
 abbrev pub no_tests : Tally
 no_tests = record { kept = 0; struck = 0; shared = 0; repeated = 0 }
 
-abbrev pub total : Tally → ℕ
-total t = t.kept + t.struck + t.shared + t.repeated
+abbrev pub tests_counted : Tally → ℕ
+tests_counted t = t.kept + t.struck + t.shared + t.repeated
 
 -- one more of a class
 abbrev pub with_one_more : Class → Tally → Tally

@@ -18,7 +18,7 @@ use Rattle.inspection.specs.Lists.{Contents}
 use Rattle.inspection.specs.States.{Core}
 use Rattle.inspection.specs.Offers.{lacks_rows}
 
--- an entry has a number that is not of the sheet
+-- an entry has a number that is not of the sheet_here
 abbrev pub is_stray : {E : Type 0} → (E → Bool) → Option E → Bool
 is_stray inside None = false
 is_stray inside (Some e) = not (inside e)
@@ -32,29 +32,29 @@ window_of set d shape (Some e) = window_at set d (shape e)
 module _
     {E : Type 0} (n : Naming E) (ps : List Point) (fs : List Face)
     (c : Core) (h : Contents E) (i : ℕ) where
-  abbrev sheet : Sheet
-  sheet = sheet_in c.draft ps fs
+  abbrev sheet_here : Sheet
+  sheet_here = sheet_in c.draft ps fs
 
   unfoldable pub window_checks : List Check
   window_checks =
       check (lacks_rows c.draft ps fs) 16 Window 0 0
       ∷ check (nat_le (length h.entries) i) 22 Window i 0
-      ∷ check (is_stray (n.inside sheet) (slice_get h.entries i)) 19 Window i 0 ∷ []
+      ∷ check (is_stray (n.inside sheet_here) (slice_get h.entries i)) 19 Window i 0 ∷ []
 
   -- of a filter's set at the depth now set
   pub record WindowAnswer (set : Shape → Bool) (r : Result (Option (ℕ × ℕ)) WindowFault)
       : Type 0 where
     pub fault : fault_notice notice_of_window r ≡ first_fit window_checks
-    pub value : IfOk r (λ w. w ≡ window_of set c.depth (n.shape sheet) (slice_get h.entries i))
+    pub value : IfOk r (λ w. w ≡ window_of set c.depth (n.shape sheet_here) (slice_get h.entries i))
     pub meaning : IfOk r (λ w.
-        IfSome (slice_get h.entries i) (λ e. WindowMeans set c.depth (n.shape sheet e) w))
+        IfSome (slice_get h.entries i) (λ e. WindowMeans set c.depth (n.shape sheet_here e) w))
 
   -- with how many parts are put to the filter, and that it is the first of the window
   pub record EarliestAnswer (set : Shape → Bool) (r : Result Earliest WindowFault) : Type 0 where
     pub fault : fault_notice notice_of_window r ≡ first_fit window_checks
     pub value : IfOk r (λ a.
-        IfSome (slice_get h.entries i) (λ e. a ≡ earliest_at set c.depth (n.shape sheet e)))
-    pub window : IfOk r (λ a. let w = window_of set c.depth (n.shape sheet) (slice_get h.entries i) in
+        IfSome (slice_get h.entries i) (λ e. a ≡ earliest_at set c.depth (n.shape sheet_here e)))
+    pub window : IfOk r (λ a. let w = window_of set c.depth (n.shape sheet_here) (slice_get h.entries i) in
         a.part ≡ first_of w)
     pub meaning : IfOk r (λ a.
-        IfSome (slice_get h.entries i) (λ e. EarliestMeans set c.depth (n.shape sheet e) a.part))
+        IfSome (slice_get h.entries i) (λ e. EarliestMeans set c.depth (n.shape sheet_here e) a.part))

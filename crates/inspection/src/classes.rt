@@ -1,6 +1,6 @@
 // The classes of tests, and their counts.
 ghost use Rattle.std.specs.Prelude.{◌≡◌, ◌+◌, ◌^◌, ◌<◌};
-ghost use Rattle.inspection.specs.Tallies.{no_tests, total, with_one_more, sum_of, tally_in};
+ghost use Rattle.inspection.specs.Tallies.{no_tests, tests_counted, with_one_more, sum_of, tally_in};
 ghost use Rattle.motion.specs.declared.shapes.Kind.TheVariants.{Vf, Ee};
 
 use motion::Kind;
@@ -58,7 +58,7 @@ impl Tally {
 
     /// One more of a class.
     pub(crate) fn count(&mut self, class: Class)
-        requires { total self.old < 2 ^ 31 }
+        requires { tests_counted self.old < 2 ^ 31 }
         ensures { self.new ≡ with_one_more class self.old }
     {
         match class {
@@ -71,7 +71,7 @@ impl Tally {
 
     /// As many more of each class.
     pub(crate) fn add(&mut self, more: Tally)
-        requires { total self.old + total more < 2 ^ 31 }
+        requires { tests_counted self.old + tests_counted more < 2 ^ 31 }
         ensures { self.new ≡ sum_of self.old more }
     {
         self.kept += more.kept;

@@ -22,10 +22,9 @@ pub(crate) struct Judge<'a, F> {
 
 impl<'a, F: Filter> Judge<'a, F> {
     ghost use Rattle.std.specs.Prelude.{◌++◌, length};
-    ghost use Rattle.inspection.specs.Tallies.{no_tests, total};
+    ghost use Rattle.inspection.specs.Tallies.{no_tests, tests_counted};
     ghost use Rattle.inspection.specs.Classes.{class_of, entries_after, tally_after};
-    ghost use Rattle.inspection.specs.Judges.{rules_of};
-    ghost use Rattle.inspection.specs.Lists.{entries};
+    ghost use Rattle.inspection.specs.inner.Judges.{rules_of};
 
     /// Whether the filter strikes a test of the sheet at the depth.
     fn strikes<E: TestName>(&self, e: E) -> bool
@@ -41,7 +40,7 @@ impl<'a, F: Filter> Judge<'a, F> {
     /// The class of a test: `new` are the entries that the offer adds so far.
     fn class_of<E: TestName>(&self, e: E, list: &List<'_, E>, new: &[E]) -> Class
         ensures { let rules = rules_of F.struck E.naming self.now in
-            result ≡ class_of rules (entries list.now ++ new.now) e }
+            result ≡ class_of rules (list.now.entries ++ new.now) e }
     {
         if e.is_shared(self.rows) {
             return Class::Shared;
@@ -65,10 +64,10 @@ impl<'a, F: Filter> Judge<'a, F> {
         requires room { length tests.now ≤ N }
         requires few { length tests.now ≤ 9 }
         ensures entries { let rules = rules_of F.struck E.naming self.now in
-            entries list.now ++ result.0.items ≡ entries_after rules (entries list.now) tests.now }
+            list.now.entries ++ result.0.items ≡ entries_after rules list.now.entries tests.now }
         ensures tally { let rules = rules_of F.struck E.naming self.now in
-            result.1 ≡ tally_after rules (entries list.now) tests.now no_tests }
-        ensures total { total result.1 ≡ length tests.now }
+            result.1 ≡ tally_after rules list.now.entries tests.now no_tests }
+        ensures total { tests_counted result.1 ≡ length tests.now }
     {
         let mut new = ArrayVec::new();
         let mut tally = Tally::none();

@@ -5,9 +5,9 @@ ghost use Rattle.motion.specs.Depths.{window_at, WindowMeans};
 ghost use Rattle.motion.specs.Earliest.{EarliestMeans, first_of};
 ghost use Rattle.filters.specs.FirstParts.{earliest_at};
 ghost use Rattle.inspection.specs.Faults.{notice_of_opening, notice_of_window};
-ghost use Rattle.inspection.specs.Tallies.{total, tally_in};
+ghost use Rattle.inspection.specs.Tallies.{tests_counted, tally_in};
 ghost use Rattle.inspection.specs.Sheets.{sheet_in, sheet_of_rows};
-ghost use Rattle.inspection.specs.Lists.{contents_of, entries, grown_to, without_entries};
+ghost use Rattle.inspection.specs.inner.Extending.{extended};
 ghost use Rattle.inspection.specs.Tests.{vf_naming, ee_naming};
 ghost use Rattle.motion.specs.declared.shapes.Kind.TheVariants.{Vf, Ee};
 ghost use Rattle.inspection.specs.declared.faults.OfferFault.TheVariants.{ListFull};
@@ -15,7 +15,7 @@ ghost use Rattle.inspection.specs.declared.faults.OfferFault.TheVariants.{ListFu
 use crate::classes::{Counts, Tally};
 use crate::classing::Judge;
 use crate::faults::{OfferFault, OpeningFault, WindowFault};
-use crate::lists::List;
+use crate::lists::{List, Lists};
 use crate::names::{EeName, VfName};
 use crate::offerings::Offering;
 use crate::offers::check_offer;
@@ -28,11 +28,9 @@ use motion::Kind;
 use sheet::{Draft, Face, Point};
 
 mod closing;
-mod reviewing;
 mod working;
 
 pub use closing::Closed;
-pub use reviewing::SlipsOut;
 pub use working::{Worked, inspect};
 
 /// An inspection of a sheet's step. It holds the draft, so that there is no other of the sheet
@@ -47,8 +45,8 @@ pub struct Inspection<F> {
     accepted: u32,
     ghost depths: { depth ≤ 6 },
     ghost offers: { accepted ≤ 1000000 },
-    ghost vf_few: { total (tally_in Vf tallies) ≤ 6 * accepted },
-    ghost ee_few: { total (tally_in Ee tallies) ≤ 9 * accepted },
+    ghost vf_few: { tests_counted (tally_in Vf tallies) ≤ 6 * accepted },
+    ghost ee_few: { tests_counted (tally_in Ee tallies) ≤ 9 * accepted },
 }
 
 /// What a refused opening hands back.
@@ -69,8 +67,9 @@ struct PairOutcome {
 }
 
 impl<F: Filter> Inspection<F> {
-    ghost use Rattle.inspection.specs.States.{core_of, state_of, core_at_start, with_counts};
-    ghost use Rattle.inspection.specs.Offers.{lacks_rows, Outcome, OfferCall};
+    ghost use Rattle.inspection.specs.States.{core_of, state_of, core_at_start, emptied, with_counts};
+    ghost use Rattle.inspection.specs.Offers.{lacks_rows, OfferCall};
+    ghost use Rattle.inspection.specs.inner.Outcomes.{KindOutcome};
     ghost use Rattle.inspection.specs.Windows.{WindowAnswer, EarliestAnswer, window_checks};
     ghost use Rattle.inspection.specs.Runs.{depth_checks, Opened, DepthCall};
     ghost use Rattle.inspection.specs.Claims.{Findings};
@@ -81,20 +80,16 @@ impl<F: Filter> Inspection<F> {
         draft: Draft,
         filter: F,
         depth: u8,
-        vf: &mut List<'_, VfName>,
-        ee: &mut List<'_, EeName>,
+        lists: &mut Lists<'_>,
     ) -> Result<Inspection<F>, Refused<F>>
         ensures fault { fault_notice (λ x. notice_of_opening x.fault) result
             ≡ first_fit (depth_checks depth) }
         ensures core { IfOk result (λ i. core_of i ≡ core_at_start draft depth) }
         ensures filter { IfOk result (λ i. i.filter ≡ filter) }
-        ensures begins { IfOk result (λ i. Opened draft (state_of i vf.new ee.new)) }
+        ensures begins { IfOk result (λ i. Opened draft (state_of i lists.new)) }
         ensures draft_back { IfErr result (λ x. x.draft ≡ draft) }
         ensures filter_back { IfErr result (λ x. x.filter ≡ filter) }
-        ensures vf { let old = contents_of vf.old in
-            contents_of vf.new ≡ (if is_ok result then without_entries old else old) }
-        ensures ee { let old = contents_of ee.old in
-            contents_of ee.new ≡ (if is_ok result then without_entries old else old) }
+        ensures lists { lists.new ≡ (if is_ok result then emptied lists.old else lists.old) }
     {
         if is_too_deep(depth) {
             let fault = OpeningFault::TooDeep(depth);
@@ -104,8 +99,8 @@ impl<F: Filter> Inspection<F> {
                 fault,
             });
         }
-        vf.clear();
-        ee.clear();
+        lists.vf.clear();
+        lists.ee.clear();
         let tallies = [Tally::none(), Tally::none()];
         Ok(Inspection {
             draft,
@@ -135,39 +130,32 @@ impl<F: Filter> Inspection<F> {
         &mut self,
         points: &[Point],
         faces: &[Face],
-        vf: &mut List<'_, VfName>,
-        ee: &mut List<'_, EeName>,
+        lists: &mut Lists<'_>,
         what: Offering,
     ) -> Result<(), OfferFault>
         ensures call { OfferCall (F.Filter.struck self.old.filter) points.now faces.now
-            what (state_of self.old vf.old ee.old) result (state_of self.new vf.new ee.new) }
+            what (state_of self.old lists.old) result (state_of self.new lists.new) }
         ensures filter { self.new.filter ≡ self.old.filter }
     {
         let rows = check_offer(&self.draft, points, faces, what, self.accepted)?;
-        let new = self.class_pair(rows, vf, ee, what);
-        self.accept(&new, vf, ee)
+        let new = self.class_pair(rows, lists, what);
+        self.accept(&new, lists)
     }
 
     /// Classes the tests of a pair.
-    fn class_pair(
-        &self,
-        rows: Rows<'_>,
-        vf: &List<'_, VfName>,
-        ee: &List<'_, EeName>,
-        what: Offering,
-    ) -> PairOutcome
-        ensures vf { Outcome vf_naming (F.Filter.struck self.now.filter) self.now.depth
-            (sheet_of_rows rows.entry) what (entries vf.now) result.vf.items result.vf_tally }
-        ensures ee { Outcome ee_naming (F.Filter.struck self.now.filter) self.now.depth
-            (sheet_of_rows rows.entry) what (entries ee.now) result.ee.items result.ee_tally }
+    fn class_pair(&self, rows: Rows<'_>, lists: &Lists<'_>, what: Offering) -> PairOutcome
+        ensures vf { KindOutcome vf_naming (F.Filter.struck self.now.filter) self.now.depth
+            (sheet_of_rows rows.entry) what lists.now.vf.entries result.vf.items result.vf_tally }
+        ensures ee { KindOutcome ee_naming (F.Filter.struck self.now.filter) self.now.depth
+            (sheet_of_rows rows.entry) what lists.now.ee.entries result.ee.items result.ee_tally }
     {
         let judge = Judge {
             rows,
             filter: &self.filter,
             depth: self.depth,
         };
-        let (vf, vf_tally) = judge.class_all(&vf_tests(rows, what), vf);
-        let (ee, ee_tally) = judge.class_all(&ee_tests(rows, what), ee);
+        let (vf, vf_tally) = judge.class_all(&vf_tests(rows, what), &lists.vf);
+        let (ee, ee_tally) = judge.class_all(&ee_tests(rows, what), &lists.ee);
         PairOutcome {
             vf,
             vf_tally,
@@ -178,34 +166,27 @@ impl<F: Filter> Inspection<F> {
 
     /// Lists and counts what a pair's tests come to. Where a list has less room than there are new
     /// entries, all is left as it was.
-    fn accept(
-        &mut self,
-        new: &PairOutcome,
-        vf: &mut List<'_, VfName>,
-        ee: &mut List<'_, EeName>,
-    ) -> Result<(), OfferFault>
+    fn accept(&mut self, new: &PairOutcome, lists: &mut Lists<'_>) -> Result<(), OfferFault>
         requires few { self.old.accepted < 1000000 }
-        requires vf { total new.now.vf_tally ≤ 6 }
-        requires ee { total new.now.ee_tally ≤ 9 }
-        ensures room { let vf_short = nat_lt (length (contents_of vf.old).rest) (length new.now.vf.items) in
-            let ee_short = nat_lt (length (contents_of ee.old).rest) (length new.now.ee.items) in
+        requires vf { tests_counted new.now.vf_tally ≤ 6 }
+        requires ee { tests_counted new.now.ee_tally ≤ 9 }
+        ensures room { let vf_short = nat_lt (length lists.old.vf.rest) (length new.now.vf.items) in
+            let ee_short = nat_lt (length lists.old.ee.rest) (length new.now.ee.items) in
             result ≡ (if vf_short || ee_short then Err ListFull else Ok tt) }
-        ensures vf { let old = contents_of vf.old in
-            let grown = grown_to (old.entries ++ new.now.vf.items) old in
-            contents_of vf.new ≡ (if is_ok result then grown else old) }
-        ensures ee { let old = contents_of ee.old in
-            let grown = grown_to (old.entries ++ new.now.ee.items) old in
-            contents_of ee.new ≡ (if is_ok result then grown else old) }
+        ensures vf { let old = lists.old.vf in
+            lists.new.vf ≡ (if is_ok result then extended new.now.vf.items old else old) }
+        ensures ee { let old = lists.old.ee in
+            lists.new.ee ≡ (if is_ok result then extended new.now.ee.items old else old) }
         ensures core { let old = core_of self.old in
             let counted = with_counts new.now.vf_tally new.now.ee_tally old in
             core_of self.new ≡ (if is_ok result then counted else old) }
         ensures filter { self.new.filter ≡ self.old.filter }
     {
-        if vf.room() < new.vf.len() || ee.room() < new.ee.len() {
+        if lists.vf.room() < new.vf.len() || lists.ee.room() < new.ee.len() {
             return Err(OfferFault::ListFull);
         }
-        vf.extend(new.vf.as_slice());
-        ee.extend(new.ee.as_slice());
+        lists.vf.extend(new.vf.as_slice());
+        lists.ee.extend(new.ee.as_slice());
         self.count(new.vf_tally, new.ee_tally);
         Ok(())
     }
@@ -213,8 +194,8 @@ impl<F: Filter> Inspection<F> {
     /// Counts the tests of an accepted offer.
     fn count(&mut self, vf: Tally, ee: Tally)
         requires few { self.old.accepted < 1000000 }
-        requires vf { total vf ≤ 6 }
-        requires ee { total ee ≤ 9 }
+        requires vf { tests_counted vf ≤ 6 }
+        requires ee { tests_counted ee ≤ 9 }
         ensures core { core_of self.new ≡ with_counts vf ee (core_of self.old) }
         ensures filter { self.new.filter ≡ self.old.filter }
     {
@@ -223,13 +204,20 @@ impl<F: Filter> Inspection<F> {
         self.accepted += 1;
     }
 
+    /// How many offers were accepted.
+    pub fn accepted(&self) -> u32
+        ensures { result ≡ self.now.accepted }
+    {
+        self.accepted
+    }
+
     /// The eight counts. With them comes the claim: whatever run ends here, with these lists,
     /// nobody can name a touch that it missed.
-    pub fn findings(&self, vf: &List<'_, VfName>, ee: &List<'_, EeName>) -> Counts
+    pub fn findings(&self, lists: &Lists<'_>) -> Counts
         ensures vf { result.vf ≡ tally_in Vf self.now.tallies }
         ensures ee { result.ee ≡ tally_in Ee self.now.tallies }
         ensures claim { Findings (F.Filter.struck self.now.filter)
-            (state_of self.now vf.now ee.now) }
+            (state_of self.now lists.now) }
     {
         Counts::of(&self.tallies)
     }
@@ -248,7 +236,7 @@ impl<F: Filter> Inspection<F> {
         entry: u32,
     ) -> Result<Option<(u8, u8)>, WindowFault>
         ensures { WindowAnswer E.naming points.now faces.now (core_of self.now)
-            (contents_of list.now) entry (F.Filter.struck self.now.filter) result }
+            list.now entry (F.Filter.struck self.now.filter) result }
     {
         let (e, rows) = self.entry_over(points, faces, list, entry)?;
         Ok(self.window_of(e, rows))
@@ -269,7 +257,7 @@ impl<F: Filter> Inspection<F> {
         entry: u32,
     ) -> Result<Earliest, WindowFault>
         ensures { EarliestAnswer E.naming points.now faces.now (core_of self.now)
-            (contents_of list.now) entry (F.Filter.struck self.now.filter) result }
+            list.now entry (F.Filter.struck self.now.filter) result }
     {
         let (e, rows) = self.entry_over(points, faces, list, entry)?;
         Ok(self.earliest_of(e, rows))
@@ -286,9 +274,9 @@ impl<F: Filter> Inspection<F> {
     ) -> Result<(E, Rows<'a>), WindowFault>
         ensures fault { fault_notice notice_of_window result
             ≡ first_fit (window_checks E.naming points.now faces.now (core_of self.now)
-            (contents_of list.now) entry) }
+            list.now entry) }
         ensures entry { IfOk result (λ (e, rows).
-            slice_get (entries list.now) entry ≡ Some e) }
+            slice_get list.now.entries entry ≡ Some e) }
         ensures rows { IfOk result (λ (e, rows).
             sheet_of_rows rows ≡ sheet_in self.now.draft points.now faces.now) }
     {

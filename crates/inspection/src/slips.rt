@@ -1,13 +1,11 @@
 // Several reviewers at the same lists: each entry goes to one at a time, by a slip.
 ghost use Rattle.std.specs.Prelude.{◌≡◌};
-ghost use Rattle.inspection.specs.Lists.{contents_of};
-ghost use Rattle.inspection.specs.Slips.{lists_of, TakesFrom, HandsInto, Takes, HandsIn, mark_of};
+ghost use Rattle.inspection.specs.Slips.{TakesFrom, HandsInto, Takes, HandsIn, mark_of};
 
 use crate::entries::Entry;
 use crate::faults::{ReturnFault, TakingFault};
-use crate::lists::List;
+use crate::lists::{List, Lists};
 use crate::marks::Mark;
-use crate::names::{EeName, VfName};
 use motion::Kind;
 
 /// A taken entry, for its reviewer to hand in. It is no `Drop`: a program that lets one go is
@@ -42,15 +40,13 @@ impl Slip {
         list: Kind,
         entry: u32,
         reviewer: u8,
-        vf: &mut List<'_, VfName>,
-        ee: &mut List<'_, EeName>,
+        lists: &mut Lists<'_>,
     ) -> Result<Slip, TakingFault>
-        ensures { Takes list entry reviewer
-            (lists_of vf.old ee.old) result (lists_of vf.new ee.new) }
+        ensures { Takes list entry reviewer lists.old result lists.new }
     {
         match list {
-            Kind::Vf => Slip::take_from(list, entry, reviewer, vf),
-            Kind::Ee => Slip::take_from(list, entry, reviewer, ee),
+            Kind::Vf => Slip::take_from(list, entry, reviewer, &mut lists.vf),
+            Kind::Ee => Slip::take_from(list, entry, reviewer, &mut lists.ee),
         }
     }
 
@@ -61,7 +57,7 @@ impl Slip {
         entries: &mut List<'_, E>,
     ) -> Result<Slip, TakingFault>
         ensures { TakesFrom list entry reviewer
-            (contents_of entries.old) result (contents_of entries.new) }
+            entries.old result entries.new }
     {
         if reviewer < 1 || reviewer > 8 {
             return Err(TakingFault::NoSuchReviewer(reviewer));
@@ -82,22 +78,17 @@ impl Slip {
 
     /// Hands the slip in: its entry is free again, or seen. At a fault both lists are left as they
     /// were, and the slip comes back.
-    pub fn hand_in(
-        self,
-        how: Handed,
-        vf: &mut List<'_, VfName>,
-        ee: &mut List<'_, EeName>,
-    ) -> Result<(), RefusedSlip>
-        ensures { HandsIn self how (lists_of vf.old ee.old) result (lists_of vf.new ee.new) }
+    pub fn hand_in(self, how: Handed, lists: &mut Lists<'_>) -> Result<(), RefusedSlip>
+        ensures { HandsIn self how lists.old result lists.new }
     {
         match self.list {
-            Kind::Vf => self.hand_into(how, vf),
-            Kind::Ee => self.hand_into(how, ee),
+            Kind::Vf => self.hand_into(how, &mut lists.vf),
+            Kind::Ee => self.hand_into(how, &mut lists.ee),
         }
     }
 
     fn hand_into<E: Entry>(self, how: Handed, entries: &mut List<'_, E>) -> Result<(), RefusedSlip>
-        ensures { HandsInto self how (contents_of entries.old) result (contents_of entries.new) }
+        ensures { HandsInto self how entries.old result entries.new }
     {
         let entry = self.entry;
         let Some(mark) = entries.mark(entry as usize) else {

@@ -4,10 +4,10 @@ use Rattle.std.proofs.lemmas.Bool.{false≢true}
 use Rattle.motion.specs.declared.shapes.Shape.{Shape}
 use Rattle.motion.specs.Laws.{Lawful}
 
-abbrev pub nothing : Shape → Bool
-nothing t = false
+abbrev pub no_test : Shape → Bool
+no_test t = false
 
-pub nothing_lawful : Lawful nothing
+pub nothing_lawful : Lawful no_test
 nothing_lawful =
     record {
       apart = λ t v e. absurd (false≢true e);

@@ -1,7 +1,7 @@
 // How many parts are put to a filter for the earliest part of an entry, and for the request.
 use crate::plans::{Inspected, crossing, open, tables, turning};
 use filters::{DELIVERED, Earliest, Filter, Test};
-use inspection::{Answer, List, Offering, Request, VfName, WindowFault, inspect};
+use inspection::{Answer, Lists, Offering, Request, VfName, WindowFault, inspect};
 use motion::Kind;
 use std::cell::Cell;
 use std::process::Abort;
@@ -94,8 +94,7 @@ fn of_an_entry_that_has_none(rt: HostRuntime) -> Result<(), Fail> {
 fn asked_for(requests: &[Request]) -> Result<(u32, Answer), Fail> {
     let plan = crossing()?;
     let (mut vf_table, mut ee_table) = tables();
-    let mut vf = List::new(&mut vf_table);
-    let mut ee = List::new(&mut ee_table);
+    let mut lists = Lists::new(&mut vf_table, &mut ee_table);
     let mut answers = [Answer::Window(Ok(None)); 4];
     let asked = Cell::new(0);
     let filter = Counting {
@@ -108,8 +107,7 @@ fn asked_for(requests: &[Request]) -> Result<(u32, Answer), Fail> {
         2,
         &plan.points,
         &plan.faces,
-        &mut vf,
-        &mut ee,
+        &mut lists,
         requests,
         &mut answers,
     );

@@ -1,5 +1,5 @@
 // A filter that strikes nothing.
-ghost use Rattle.inspection_tests.specs.Nothing.{nothing, nothing_lawful};
+ghost use Rattle.inspection_tests.specs.Nothing.{no_test, nothing_lawful};
 
 use filters::{Filter, Test};
 
@@ -7,7 +7,7 @@ use filters::{Filter, Test};
 pub(crate) struct Nothing;
 
 impl Filter for Nothing {
-    ghost struck = { λ f. nothing };
+    ghost struck = { λ f. no_test };
 
     ghost lawful = { λ f. nothing_lawful };
 

@@ -1,8 +1,9 @@
 // Small plans, and inspections of them.
 use filters::{Earliest, Filter};
 use inspection::{
-    Counts, EeName, Handed, Inspection, List, Marked, OfferFault, Offering, OpeningFault,
+    Counts, EeName, Handed, Inspection, Lists, Marked, OfferFault, Offering, OpeningFault,
     RefusedSlip, Slip, SlipsOut, Standing, StandingFault, TakingFault, Tally, VfName, WindowFault,
+    slips_out,
 };
 use motion::Kind;
 use sheet::{Coords, Draft, Face, Point, read_sheet};
@@ -63,8 +64,7 @@ pub(crate) struct Inspected<'t, F> {
     points: [Point; 6],
     faces: [Face; 2],
     pub inspection: Inspection<F>,
-    vf: List<'t, VfName>,
-    ee: List<'t, EeName>,
+    lists: Lists<'t>,
 }
 
 /// Opens an inspection of a plan.
@@ -80,15 +80,13 @@ pub(crate) fn open<'t, F: Filter + Drop>(
         points,
         faces,
     } = plan;
-    let mut vf = List::new(vf_table);
-    let mut ee = List::new(ee_table);
-    match Inspection::open(draft, filter, depth, &mut vf, &mut ee) {
+    let mut lists = Lists::new(vf_table, ee_table);
+    match Inspection::open(draft, filter, depth, &mut lists) {
         Ok(inspection) => Ok(Inspected {
             points,
             faces,
             inspection,
-            vf,
-            ee,
+            lists,
         }),
         Err(_) => Err(Fail::new("the opening is refused")),
     }
@@ -97,7 +95,8 @@ pub(crate) fn open<'t, F: Filter + Drop>(
 impl<F: Filter + Drop> Inspected<'_, F> {
     pub(crate) fn offer(&mut self, one: u16, other: u16) -> Result<(), OfferFault> {
         let what = Offering::Faces(one, other);
-        self.inspection.offer(&self.points, &self.faces, &mut self.vf, &mut self.ee, what)
+        self.inspection
+            .offer(&self.points, &self.faces, &mut self.lists, what)
     }
 
     /// Offers two faces over other tables.
@@ -107,16 +106,15 @@ impl<F: Filter + Drop> Inspected<'_, F> {
         faces: &[Face],
         what: Offering,
     ) -> Result<(), OfferFault> {
-        self.inspection
-            .offer(points, faces, &mut self.vf, &mut self.ee, what)
+        self.inspection.offer(points, faces, &mut self.lists, what)
     }
 
     pub(crate) fn counts(&self) -> Counts {
-        self.inspection.findings(&self.vf, &self.ee)
+        self.inspection.findings(&self.lists)
     }
 
     pub(crate) fn vf_entry(&self, entry: u32) -> Option<VfName> {
-        self.vf.get(entry as usize)
+        self.lists.vf.get(entry as usize)
     }
 
     pub(crate) fn take(
@@ -125,22 +123,22 @@ impl<F: Filter + Drop> Inspected<'_, F> {
         entry: u32,
         reviewer: u8,
     ) -> Result<Slip, TakingFault> {
-        Slip::take(list, entry, reviewer, &mut self.vf, &mut self.ee)
+        Slip::take(list, entry, reviewer, &mut self.lists)
     }
 
     pub(crate) fn hand_in(&mut self, slip: Slip, how: Handed) -> Result<(), RefusedSlip> {
-        slip.hand_in(how, &mut self.vf, &mut self.ee)
+        slip.hand_in(how, &mut self.lists)
     }
 
     pub(crate) fn standing(&self, list: Kind, entry: u32) -> Result<Standing, StandingFault> {
         match list {
-            Kind::Vf => self.vf.standing(entry),
-            Kind::Ee => self.ee.standing(entry),
+            Kind::Vf => self.lists.vf.standing(entry),
+            Kind::Ee => self.lists.ee.standing(entry),
         }
     }
 
     pub(crate) fn slips_out(&self) -> SlipsOut {
-        self.inspection.slips_out(&self.vf, &self.ee)
+        slips_out(&self.lists)
     }
 
     pub(crate) fn set_depth(&mut self, depth: u8) -> Result<(), OpeningFault> {
@@ -159,8 +157,8 @@ impl<F: Filter + Drop> Inspected<'_, F> {
 
     /// The lists have so many entries.
     pub(crate) fn expect_lens(&self, rt: &impl Abort, vf: usize, ee: usize) {
-        assert_eq!(rt; self.vf.len(), vf);
-        assert_eq!(rt; self.ee.len(), ee);
+        assert_eq!(rt; self.lists.vf.len(), vf);
+        assert_eq!(rt; self.lists.ee.len(), ee);
     }
 
     pub(crate) fn expect_vf_entry(&self, rt: &impl Abort, entry: u32, name: VfName) {
@@ -180,8 +178,8 @@ impl<F: Filter + Drop> Inspected<'_, F> {
         entry: u32,
     ) -> Result<Option<(u8, u8)>, WindowFault> {
         match kind {
-            Kind::Vf => self.inspection.window(points, faces, &self.vf, entry),
-            Kind::Ee => self.inspection.window(points, faces, &self.ee, entry),
+            Kind::Vf => self.inspection.window(points, faces, &self.lists.vf, entry),
+            Kind::Ee => self.inspection.window(points, faces, &self.lists.ee, entry),
         }
     }
 
@@ -205,8 +203,12 @@ impl<F: Filter + Drop> Inspected<'_, F> {
         entry: u32,
     ) -> Result<Earliest, WindowFault> {
         match kind {
-            Kind::Vf => self.inspection.earliest(points, faces, &self.vf, entry),
-            Kind::Ee => self.inspection.earliest(points, faces, &self.ee, entry),
+            Kind::Vf => self
+                .inspection
+                .earliest(points, faces, &self.lists.vf, entry),
+            Kind::Ee => self
+                .inspection
+                .earliest(points, faces, &self.lists.ee, entry),
         }
     }
 

@@ -1,7 +1,7 @@
 // What is refused changes nothing.
 use crate::nothing::Nothing;
 use crate::plans::{Plan, crossing, open, tables, tally};
-use inspection::{Inspection, List, Marked, OfferFault, Offering, OpeningFault, VfName};
+use inspection::{Inspection, Lists, Marked, OfferFault, Offering, OpeningFault, VfName};
 use sheet::{Face, Point};
 use std::process::Abort;
 use std::test::Fail;
@@ -71,23 +71,22 @@ fn a_million_and_one(rt: HostRuntime) -> Result<(), Fail> {
 fn depths(rt: HostRuntime) -> Result<(), Fail> {
     let plan = crossing()?;
     let (mut vf_table, mut ee_table) = tables();
-    let mut vf = List::new(&mut vf_table);
-    let mut ee = List::new(&mut ee_table);
-    let draft = match Inspection::open(plan.draft, Nothing, 7, &mut vf, &mut ee) {
+    let mut lists = Lists::new(&mut vf_table, &mut ee_table);
+    let draft = match Inspection::open(plan.draft, Nothing, 7, &mut lists) {
         Ok(_) => return Err(Fail::new("depth 7 is open")),
         Err(refused) => {
             assert_eq!(rt; refused.fault, OpeningFault::TooDeep(7));
             refused.draft
         }
     };
-    let mut inspection = match Inspection::open(draft, Nothing, 6, &mut vf, &mut ee) {
+    let mut inspection = match Inspection::open(draft, Nothing, 6, &mut lists) {
         Ok(inspection) => inspection,
         Err(_) => return Err(Fail::new("the opening is refused")),
     };
     assert_eq!(rt; inspection.set_depth(7), Err(OpeningFault::TooDeep(7)));
     assert_eq!(rt; inspection.set_depth(6), Ok(()));
     let what = Offering::Faces(0, 1);
-    let _ = inspection.offer(&plan.points, &plan.faces, &mut vf, &mut ee, what);
+    let _ = inspection.offer(&plan.points, &plan.faces, &mut lists, what);
     let closed = inspection.close();
     assert_eq!(rt; closed.counts().vf, tally(6, 0, 0, 0));
     let (draft, _filter) = closed.into_draft();

@@ -2,7 +2,7 @@
 use crate::plans::{crossing, tables, tally};
 use filters::{DELIVERED, Earliest};
 use inspection::{
-    Answer, List, OfferFault, Offering, OpeningFault, Request, Tally, WindowFault, inspect,
+    Answer, Lists, OfferFault, Offering, OpeningFault, Request, Tally, WindowFault, inspect,
 };
 use motion::Kind;
 use std::test::Fail;
@@ -23,20 +23,18 @@ const UNANSWERED: Answer = Answer::Window(Ok(None));
 fn work_through(requests: &[Request], answers: &mut [Answer]) -> Result<(usize, Tally), Fail> {
     let plan = crossing()?;
     let (mut vf_table, mut ee_table) = tables();
-    let mut vf = List::new(&mut vf_table);
-    let mut ee = List::new(&mut ee_table);
+    let mut lists = Lists::new(&mut vf_table, &mut ee_table);
     match inspect(
         plan.draft,
         DELIVERED,
         2,
         &plan.points,
         &plan.faces,
-        &mut vf,
-        &mut ee,
+        &mut lists,
         requests,
         answers,
     ) {
-        Ok(worked) => Ok((worked.answered, worked.inspection.findings(&vf, &ee).vf)),
+        Ok(worked) => Ok((worked.answered, worked.inspection.findings(&lists).vf)),
         Err(_) => Err(Fail::new("the opening is refused")),
     }
 }

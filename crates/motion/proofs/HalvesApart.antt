@@ -10,7 +10,7 @@ use Rattle.motion.specs.declared.shapes.Moving.{Moving}
 use Rattle.motion.specs.declared.shapes.Shape.{Shape}
 use Rattle.motion.specs.Vectors.{◌+ᵛ◌, ◌-ᵛ◌, ◌·ᵛ◌}
 use Rattle.motion.specs.Features.{first, second}
-use Rattle.motion.specs.Laws.{FarBy, on-x, on-y, on-z, ApartAt, ApartBy, at, portion, half, weighted, total, difference}
+use Rattle.motion.specs.Laws.{FarBy, on-x, on-y, on-z, ApartAt, ApartBy, at, portion, half, weighted, weight_sum, difference}
 use Rattle.motion.proofs.Integers.{scales}
 use Rattle.motion.proofs.Products.{same}
 use Rattle.motion.proofs.Halves.{at_start, at_middle, at_end, ones-of, others-of}
@@ -61,13 +61,13 @@ module _ (g : ℕ) (t : Shape) (j p p' q : ℕ) (doubled : (m : Moving) → at p
       (h p' q hq hp ws us (lw ∙ sym (length-map (first t) (portion 1 j)) ∙ ap length (ones-of t j), hw) (lu ∙ sym (length-map (second t) (portion 1 j)) ∙ ap length (others-of t j), hu)))
     where
       n : ℕ
-      n = total ws * total us * q
+      n = weight_sum ws * weight_sum us * q
 
       twice : difference p' q ws (first (half j t)) us (second (half j t)) ≡ pos 2 ·ᵛ difference p q ws (first t) us (second t)
       twice =
           (λ i. difference p' q ws (sym (ones-of t j) i) us (sym (others-of t j) i))
-          ∙ (λ i. pos (total us) ·ᵛ weighted-doubled (at p' q) (at p q) (portion 1 j) doubled ws (first t) i -ᵛ pos (total ws) ·ᵛ weighted-doubled (at p' q) (at p q) (portion 1 j) doubled us (second t) i)
-          ∙ doubled-minus (total us) (total ws) (weighted ws (map (at p q) (first t))) (weighted us (map (at p q) (second t)))
+          ∙ (λ i. pos (weight_sum us) ·ᵛ weighted-doubled (at p' q) (at p q) (portion 1 j) doubled ws (first t) i -ᵛ pos (weight_sum ws) ·ᵛ weighted-doubled (at p' q) (at p q) (portion 1 j) doubled us (second t) i)
+          ∙ doubled-minus (weight_sum us) (weight_sum ws) (weighted ws (map (at p q) (first t))) (weighted us (map (at p q) (second t)))
 
 pub halves-apart : (g : ℕ) (t : Shape) → ApartBy g (half 0 t) → ApartBy g (half 1 t) → ApartBy g t
 halves-apart g t first last p q hq hp = go (dec_le (2 * p) q)

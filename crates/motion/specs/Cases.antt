@@ -14,8 +14,8 @@ use Rattle.motion.specs.Rows.{delivered}
 use Rattle.motion.specs.Depths.{struck_at, IsWindow, window_at}
 
 -- n below zero
-abbrev minus : ℕ → ℤ
-minus n = neg_ℤ (pos n)
+abbrev negative : ℕ → ℤ
+negative n = neg_ℤ (pos n)
 
 -- a position with no coordinate below zero
 abbrev position : ℕ → ℕ → ℕ → V3
@@ -42,17 +42,17 @@ abbrev over_t : Moving → Shape
 over_t p = vf p (resting origin) (resting (position 4 0 0)) (resting (position 0 4 0))
 
 -- the point (1,1,1), which goes to (1,1,z)
-abbrev above : ℤ → Moving
-above z = position 1 1 1 to vector (pos 1) (pos 1) z
+abbrev at_height : ℤ → Moving
+at_height z = position 1 1 1 to vector (pos 1) (pos 1) z
 
 abbrev pub leaving : Shape
-leaving = over_t (above (pos 3))
+leaving = over_t (at_height (pos 3))
 
 abbrev pub crossing : Shape
-crossing = over_t (above (minus 1))
+crossing = over_t (at_height (negative 1))
 
 abbrev pub landing : Shape
-landing = over_t (above (pos 0))
+landing = over_t (at_height (pos 0))
 
 abbrev pub beside : Shape
 beside = over_t (resting (position 9 9 0))
@@ -60,20 +60,20 @@ beside = over_t (resting (position 9 9 0))
 -- the face rises by ten, and the point with it
 abbrev pub rising : Shape
 rising =
-    vf (above (pos 11)) (origin to position 0 0 10)
+    vf (at_height (pos 11)) (origin to position 0 0 10)
     (position 4 0 0 to position 4 0 10) (position 0 4 0 to position 0 4 10)
 
 abbrev pub turning : Shape
 turning =
-    vf (position 2 0 2 to vector (minus 2) (pos 0) (pos 0)) (resting origin)
+    vf (position 2 0 2 to vector (negative 2) (pos 0) (pos 0)) (resting origin)
     (position 1 0 0 to position 0 0 1) (resting (position 0 1 0))
 
 -- two edges, one of which sinks through the other
 abbrev pub sinking : Shape
 sinking =
-    ee (resting (vector (minus 2) (pos 0) (pos 0))) (resting (position 2 0 0))
-    (vector (pos 0) (minus 2) (pos 1) to vector (pos 0) (minus 2) (minus 1))
-    (position 0 2 1 to vector (pos 0) (pos 2) (minus 1))
+    ee (resting (vector (negative 2) (pos 0) (pos 0))) (resting (position 2 0 0))
+    (vector (pos 0) (negative 2) (pos 1) to vector (pos 0) (negative 2) (negative 1))
+    (position 0 2 1 to vector (pos 0) (pos 2) (negative 1))
 
 -- the seven of them
 abbrev pub worked_tests : List Shape
@@ -90,7 +90,7 @@ CrossingWindow d i j = IsWindow delivered d crossing i j × (window_at delivered
 
 pub record Cases : Type 0 where
   pub leaving_answers : Answers leaving (values (pos 48) (pos 80) (pos 112) (pos 144)) true true true
-  pub crossing_answers : Answers crossing (values (pos 48) (pos 16) (minus 16) (minus 48)) false false false
+  pub crossing_answers : Answers crossing (values (pos 48) (pos 16) (negative 16) (negative 48)) false false false
   pub crossing_window_0 : CrossingWindow 0 0 0
   pub crossing_window_1 : CrossingWindow 1 0 1
   pub crossing_window_2 : CrossingWindow 2 1 2
@@ -103,4 +103,4 @@ pub record Cases : Type 0 where
   pub turning_first_half : controls (half 0 turning) ≡ values (pos 48) (pos 24) (pos 12) (pos 12)
   pub turning_last_half : controls (half 1 turning) ≡ values (pos 12) (pos 12) (pos 24) (pos 48)
   pub turning_deeper : IsTrue (struck_at delivered 1 turning)
-  pub sinking_answers : Answers sinking (values (minus 48) (minus 16) (pos 16) (pos 48)) false false false
+  pub sinking_answers : Answers sinking (values (negative 48) (negative 16) (pos 16) (pos 48)) false false false

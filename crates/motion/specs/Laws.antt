@@ -30,13 +30,13 @@ weighted [] vs = origin
 weighted (w ∷ ws) [] = origin
 weighted (w ∷ ws) (v ∷ vs) = pos w ·ᵛ v +ᵛ weighted ws vs
 
-abbrev pub total : List ℕ → ℕ
-total [] = 0
-total (w ∷ ws) = w + total ws
+abbrev pub weight_sum : List ℕ → ℕ
+weight_sum [] = 0
+weight_sum (w ∷ ws) = w + weight_sum ws
 
 -- whole weights, one for each point of a feature, not all zero
 abbrev pub Weights : List ℕ → List Moving → Type 0
-Weights ws ms = (length ws ≡ length ms) × (1 ≤ total ws)
+Weights ws ms = (length ws ≡ length ms) × (1 ≤ weight_sum ws)
 
 -- v is n times a difference of two points, on a grid 2^k times as fine:
 -- it is at least g·2^k/2^49 on some axis
@@ -49,14 +49,14 @@ pub data FarBy (g k n : ℕ) (v : V3) : Type 0 where
 -- times q and both sums
 abbrev pub difference : ℕ → ℕ → List ℕ → List Moving → List ℕ → List Moving → V3
 difference p q ws ms us ns =
-    pos (total us) ·ᵛ weighted ws (map (at p q) ms)
-    -ᵛ pos (total ws) ·ᵛ weighted us (map (at p q) ns)
+    pos (weight_sum us) ·ᵛ weighted ws (map (at p q) ms)
+    -ᵛ pos (weight_sum ws) ·ᵛ weighted us (map (at p q) ns)
 
 -- at the fraction p/q any point of the one feature is that far from any of the other
 abbrev pub ApartAt : ℕ → ℕ → ℕ → Shape → Type 0
 ApartAt g p q t =
     (ws us : List ℕ) → Weights ws (first t) → Weights us (second t)
-    → FarBy g t.scale (total ws * total us * q) (difference p q ws (first t) us (second t))
+    → FarBy g t.scale (weight_sum ws * weight_sum us * q) (difference p q ws (first t) us (second t))
 
 -- and so at every fraction of the step
 abbrev pub ApartBy : ℕ → Shape → Type 0

@@ -1,9 +1,9 @@
 // near [FOLDER]: finds the pairs of faces to inspect in the fold plan in a folder.
 #![tactic(auto)]
 
-use commands::{About, given};
 use pairings::pair_folder;
 use std::process::ExitCode;
+use system::{About, given};
 
 const HELP: &str = "\
 usage: near [FOLDER]

@@ -6,7 +6,7 @@ use Rattle.std.proofs.lemmas.List.Elements.{All-nil, All-cons, All-append, All-h
 use Rattle.near_faces.specs.declared.boxes.SweptBox.{SweptBox}
 use Rattle.near_faces.specs.declared.pairs.Pair.{Pair}
 use Rattle.near_faces.specs.Boxes.{meets}
-use Rattle.near_faces.specs.Near.{pair, near_to, near_from, near, box_at, Near, Before, NearPairs}
+use Rattle.near_faces.specs.Near.{pair, near_to, near_from, near, box_at, Near, PairBefore, NearPairs}
 
 -- ---- pairs of places of a list
 pairs_none : {A : Type 0} (R : A → A → Type 0) → AllPairs R []
@@ -76,15 +76,15 @@ module _ (i : ℕ) (b : SweptBox) where
           All-cons P (pair i f) (near_to i b (f + 1) cs) (subst (λ (n : ℕ). P (pair i n)) j (h 0 (record { within = omega arith; later = omega (arith, ltb-true i f p.0); meet = p.1 }))) rest
       go false e rest = rest
 
-  pub ascending_to : (f : ℕ) (run : List SweptBox) → AllPairs Before (near_to i b f run)
-  ascending_to f [] = pairs_none Before
+  pub ascending_to : (f : ℕ) (run : List SweptBox) → AllPairs PairBefore (near_to i b f run)
+  ascending_to f [] = pairs_none PairBefore
   ascending_to f (c ∷ cs) = go (ltb i f && meets b c) (ascending_to (f + 1) cs)
     where
-      after : All (Before (pair i f)) (near_to i b (f + 1) cs)
-      after = each_to (Before (pair i f)) (f + 1) cs (λ k l. inr (refl, omega arith))
+      after : All (PairBefore (pair i f)) (near_to i b (f + 1) cs)
+      after = each_to (PairBefore (pair i f)) (f + 1) cs (λ k l. inr (refl, omega arith))
 
-      go : (t : Bool) → AllPairs Before (near_to i b (f + 1) cs) → AllPairs Before (cond t (pair i f ∷ near_to i b (f + 1) cs) (near_to i b (f + 1) cs))
-      go true rest = pairs_cons Before (pair i f) (near_to i b (f + 1) cs) after rest
+      go : (t : Bool) → AllPairs PairBefore (near_to i b (f + 1) cs) → AllPairs PairBefore (cond t (pair i f ∷ near_to i b (f + 1) cs) (near_to i b (f + 1) cs))
+      go true rest = pairs_cons PairBefore (pair i f) (near_to i b (f + 1) cs) after rest
       go false rest = rest
 
 -- ---- of all faces: the rest begins with face i
@@ -114,13 +114,13 @@ module _ (all : List SweptBox) where
       h (pair i (0 + k)) (omega arith) (record { lower_first = later; within = omega arith; meet = ap (λ (c : SweptBox). meets c (box_at all (0 + k))) (sym (first_box all i b bs r)) ∙ ap (λ (n : ℕ). meets b (box_at all n)) j ∙ l.meet })))
       (each_from P (i + 1) bs (rest_tail all i b bs r) (λ p le n. h p (omega arith) n))
 
-  ascending_from : (i : ℕ) (rest : List SweptBox) → RestOf all i rest → AllPairs Before (near_from all i rest)
-  ascending_from i [] r = pairs_none Before
+  ascending_from : (i : ℕ) (rest : List SweptBox) → RestOf all i rest → AllPairs PairBefore (near_from all i rest)
+  ascending_from i [] r = pairs_none PairBefore
   ascending_from i (b ∷ bs) r =
       let s = rest_tail all i b bs r in
-      pairs_append Before (near_to i b 0 all) (near_from all (i + 1) bs) (ascending_to i b 0 all) (ascending_from (i + 1) bs s)
-      (each_to i b (λ p. All (Before p) (near_from all (i + 1) bs)) 0 all
-      (λ k l. each_from (Before (pair i (0 + k))) (i + 1) bs s (λ q le n. inl (omega arith))))
+      pairs_append PairBefore (near_to i b 0 all) (near_from all (i + 1) bs) (ascending_to i b 0 all) (ascending_from (i + 1) bs s)
+      (each_to i b (λ p. All (PairBefore p) (near_from all (i + 1) bs)) 0 all
+      (λ k l. each_from (PairBefore (pair i (0 + k))) (i + 1) bs s (λ q le n. inl (omega arith))))
 
   listed_from : (i : ℕ) (rest : List SweptBox) → RestOf all i rest → (m : ℕ) (p : Pair) → p.first ≡ i + m → Near all p → Contains (near_from all i rest) p
   listed_from i [] r m p e n = absurd (omega (arith, r.number, n.lower_first, n.within))

@@ -1,8 +1,7 @@
 -- Offered all, the near pairs cover the whole sheet: faces whose boxes do not meet stay apart.
-use Rattle.std.proofs.Common.{◌≡◌, ℕ, ◌<◌, Bool, true, false, List, [], take, length, refl, ◌∙◌, inr, ⊎_elim, All, Contains, arith, ◌∷◌, ◌++◌, flat_map, sym}
+use Rattle.std.proofs.Common.{◌≡◌, ℕ, Bool, false, List, [], take, ◌∙◌, All, Contains, ◌∷◌, ◌++◌, flat_map, sym}
 use Rattle.std.specs.Prelude.{IsFalse, Any}
-use Rattle.std.proofs.lemmas.Bool.{cases_Bool, cases_lt, or_parts}
-use Rattle.std.proofs.lemmas.List.{length-map, get_or-map}
+use Rattle.std.proofs.lemmas.Bool.{or_parts}
 use Rattle.std.proofs.lemmas.List.Elements.{All-weaker, All-contains, All-contains_itself, All-nil, All-append, All-head, All-tail}
 use Rattle.std.proofs.lemmas.List.Folds.{list_any-append}
 use Rattle.sheet.specs.declared.drafts.Draft.{Draft}
@@ -19,14 +18,14 @@ use Rattle.inspection.specs.Claims.{Claim}
 use Rattle.inspection.specs.Lists.{has}
 use Rattle.inspection.specs.Offerings.{SameOffering}
 use Rattle.inspection.specs.Runs.{Accepted}
-use Rattle.inspection.specs.Sheets.{Sheet, no_face, point_at, face_at, sheet_in}
+use Rattle.inspection.specs.Sheets.{Sheet, point_at, face_at, sheet_in}
 use Rattle.inspection.specs.States.{Core}
 use Rattle.inspection.specs.Tests.{Naming, vf_naming, ee_naming}
 use Rattle.inspection.proofs.NamingLaws.{NamingLaws, alike, vf_laws, ee_laws}
 use Rattle.inspection.proofs.Claiming.{claim}
 use Rattle.inspection.proofs.Coordinates.{points_near}
-use Rattle.near_faces.specs.Boxes.{box_around, corners, swept_box, swept_boxes, meets}
-use Rattle.near_faces.specs.Near.{pair, near_pairs, Near}
+use Rattle.near_faces.specs.Boxes.{corners, swept_box, meets}
+use Rattle.near_faces.specs.Near.{near_pairs}
 use Rattle.near_faces.specs.Covering.{AllApart, WholeSheetApart, HasAll, FarApart, Inspected, IsLeft, CoversSheet}
 use Rattle.near_faces.specs.Covering.IsLeft.{ran, claimed}
 use Rattle.near_faces.specs.declared.pairs.Pair.{Pair}
@@ -96,11 +95,11 @@ module _ {E : Type 0} (n : Naming E) (s : Sheet) where
 
 -- what a run leaves can be claimed of it
 vf_stays : (d : Draft) (s : Sheet) (x : Inspected) → IsLeft d s x → All (Stay vf_naming s x.vf) x.history
-vf_stays d s x (ran set law history out t run) = (claim law d s history out t run).vf.apart
+vf_stays d s x (ran set law history out t run) = (claim law d s history out t run).claim.vf.apart
 vf_stays d s x (claimed set core c) = c.vf.apart
 
 ee_stays : (d : Draft) (s : Sheet) (x : Inspected) → IsLeft d s x → All (Stay ee_naming s x.ee) x.history
-ee_stays d s x (ran set law history out t run) = (claim law d s history out t run).ee.apart
+ee_stays d s x (ran set law history out t run) = (claim law d s history out t run).claim.ee.apart
 ee_stays d s x (claimed set core c) = c.ee.apart
 
 -- ---- of both
@@ -136,7 +135,7 @@ covering d ps fs =
     let s = sheet_in d ps fs in
     let reach = points_near (take d.points ps) (take d.faces fs) in
     record {
-      runs = λ set law history out t run has_all. whole_sheet s reach set d history t.core t.vf.entries t.ee.entries (claim law d s history out t run) has_all;
+      runs = λ set law history out t run has_all. whole_sheet s reach set d history t.core t.lists.vf.entries t.lists.ee.entries (claim law d s history out t run).claim has_all;
       claims = λ set history core vfs ees c has_all. whole_sheet s reach set d history core vfs ees c has_all;
       several = by_several s reach d;
       far = far_ones s reach;

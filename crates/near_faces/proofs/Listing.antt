@@ -7,7 +7,7 @@ use Rattle.near_faces.specs.declared.boxes.SweptBox.{SweptBox}
 use Rattle.near_faces.specs.declared.pairs.Pair.{Pair}
 use Rattle.near_faces.specs.Boxes.{meets, around}
 use Rattle.near_faces.specs.Near.{pair, near_to, near_from}
-use Rattle.near_faces.specs.Listing.{put}
+use Rattle.near_faces.specs.inner.Listing.{put}
 use Rattle.near_faces.proofs.Meeting.{meets_left, meets_right}
 
 pub cond-append : {A : Type 0} (t : Bool) (x : A) (xs ys zs : List A) → zs ≡ xs ++ ys → cond t (x ∷ zs) zs ≡ cond t (x ∷ xs) xs ++ ys

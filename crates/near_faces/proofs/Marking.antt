@@ -9,7 +9,7 @@ use Rattle.near_faces.specs.declared.boxes.SweptBox.{SweptBox}
 use Rattle.near_faces.specs.declared.pairs.Pair.{Pair}
 use Rattle.near_faces.specs.Boxes.{meets}
 use Rattle.near_faces.specs.Near.{pair, near_to}
-use Rattle.near_faces.specs.Listing.{marked, put}
+use Rattle.near_faces.specs.inner.Listing.{marked, put}
 use Rattle.near_faces.proofs.Listing.{cond-append, length-put, put_halves, nothing_after}
 use borrow.Rule.Slice.PartMut.{put_mid}
 

@@ -7,7 +7,7 @@ use Rattle.near_faces.specs.declared.sides.Sides.{Sides}
 use Rattle.std.proofs.lemmas.List.{take_all}
 use Rattle.near_faces.specs.declared.nodes.Node.{Node}
 use Rattle.near_faces.specs.Near.{near_to, near_from}
-use Rattle.near_faces.specs.Sides.{box_in, boxes_in}
+use Rattle.near_faces.specs.inner.Sides.{box_in, boxes_in}
 use Rattle.near_faces.specs.Trees.{IsTree}
 use Rattle.near_faces.proofs.Halving.{half_trees}
 use Rattle.near_faces.proofs.Listing.{in_halves, none_later, length-near_to, next_face}

@@ -13,8 +13,9 @@ use Rattle.motion.specs.declared.shapes.Moving.{Moving}
 use Rattle.inspection.specs.Sheets.{Sheet, moving_of, nowhere, sheet_of, face_at, no_face}
 use Rattle.inspection.specs.Tests.{corners_inside}
 use Rattle.near_faces.specs.declared.boxes.SweptBox.{SweptBox}
-use Rattle.near_faces.specs.Boxes.{joined, swept_by, box_around, swept_box, swept_if_inside}
-use Rattle.near_faces.specs.Searches.{lowest_outside, corner_checks}
+use Rattle.near_faces.specs.Boxes.{joined, box_around, swept_box}
+use Rattle.near_faces.specs.inner.Swept.{swept_by, swept_if_inside}
+use Rattle.near_faces.specs.Searches.{lowest_outside, outside_checks}
 use Rattle.sheet.specs.Checks.{first_fit, notice, check}
 use Rattle.sheet.specs.declared.notices.Layer.TheVariants.{Search}
 use Rattle.std.specs.Option.{is_some, option_map, unwrap_or}
@@ -102,7 +103,7 @@ module _ (s : Sheet) where
       go false p q = p
 
   -- which fault the lowest such face makes
-  pub told : (o : Option ℕ) → lowest_outside s ≡ o → option_map (λ i. notice 19 Search i 0) o ≡ first_fit (corner_checks s)
+  pub told : (o : Option ℕ) → lowest_outside s ≡ o → option_map (λ i. notice 19 Search i 0) o ≡ first_fit (outside_checks s)
   told o e = subst (λ (r : Option ℕ). option_map (λ i. notice 19 Search i 0) o ≡ first_fit (check (is_some r) 19 Search (unwrap_or r 0) 0 ∷ [])) (sym e) (go o)
     where
       go : (o : Option ℕ) → option_map (λ i. notice 19 Search i 0) o ≡ first_fit (check (is_some o) 19 Search (unwrap_or o 0) 0 ∷ [])

@@ -1,12 +1,11 @@
 -- What faces sweep over: boxes with sides along the axes.
-use Rattle.std.specs.Prelude.{ℤ, Bool, ◌&&◌, List, [], ◌∷◌, map, if◌then◌else◌, Some, None, Option, int_le}
+use Rattle.std.specs.Prelude.{ℤ, Bool, ◌&&◌, List, [], ◌∷◌, map, int_le}
 use Rattle.std.specs.Int.{int_min, int_max}
 use Rattle.sheet.specs.declared.rows.Coords.{Coords}
 use Rattle.sheet.specs.declared.rows.Face.{Face}
 use Rattle.motion.specs.declared.shapes.Moving.{Moving}
 use Rattle.motion.specs.Box.{coordinates, least, greatest}
 use Rattle.inspection.specs.Sheets.{Sheet, point_at}
-use Rattle.inspection.specs.Tests.{corners_inside}
 use Rattle.near_faces.specs.declared.boxes.SweptBox.{SweptBox}
 
 -- ---- of some points
@@ -23,19 +22,12 @@ on_axes f ms =
 abbrev pub box_around : List Moving → SweptBox
 box_around ms = record { least = on_axes least ms; greatest = on_axes greatest ms }
 
-abbrev pub swept_by : Moving → SweptBox
-swept_by m = box_around (m ∷ [])
-
 -- ---- of a face, and of all faces in their order
 abbrev pub corners : Sheet → Face → List Moving
 corners s f = point_at s f.a ∷ point_at s f.b ∷ point_at s f.c ∷ []
 
 abbrev pub swept_box : Sheet → Face → SweptBox
 swept_box s f = box_around (corners s f)
-
--- where its corners are points of the sheet
-abbrev pub swept_if_inside : Sheet → Face → Option SweptBox
-swept_if_inside s f = if corners_inside s f then Some (swept_box s f) else None
 
 abbrev pub swept_boxes : Sheet → List SweptBox
 swept_boxes s = map (swept_box s) s.faces

@@ -55,7 +55,7 @@ pub record Inspected : Type 0 where
 pub data IsLeft (d : Draft) (s : Sheet) : Inspected → Type 0 where
   ran : (set : Shape → Bool) → Lawful set → (history : List Accepted) (out : List Slip) (t : State)
       → Run set d s history out t
-      → IsLeft d s (record { history = history; vf = t.vf.entries; ee = t.ee.entries })
+      → IsLeft d s (record { history = history; vf = t.lists.vf.entries; ee = t.lists.ee.entries })
   claimed : {x : Inspected} (set : Shape → Bool) (core : Core)
       → Claim set d s x.history core x.vf x.ee → IsLeft d s x
 
@@ -64,7 +64,7 @@ pub record CoversSheet (d : Draft) (s : Sheet) (ps : List Pair) : Type 0 where
   -- after every run, by whatever lawful set, whose accepted offers have them
   pub runs : (set : Shape → Bool) → Lawful set → (history : List Accepted)
       (out : List Slip) (t : State) → Run set d s history out t → HasAll ps history
-      → WholeSheetApart s t.vf.entries t.ee.entries
+      → WholeSheetApart s t.lists.vf.entries t.lists.ee.entries
   -- and by whatever claim on such offers
   pub claims : (set : Shape → Bool) (history : List Accepted) (core : Core)
       (vfs : List VfName) (ees : List EeName)

@@ -1,7 +1,6 @@
 pub mod Boxes
 pub mod Near
-pub mod Listing
-pub mod Sides
 pub mod Trees
 pub mod Searches
 pub mod Covering
+pub mod inner

@@ -1,12 +1,18 @@
 -- The near pairs of faces: those whose boxes meet.
 use Rattle.std.specs.Prelude.{◌≡◌, ◌⊎◌, ℕ, ◌+◌, ◌<◌, IsTrue, ◌&&◌, if◌then◌else◌, List, [], ◌∷◌, ◌++◌, length, nat_lt, slice_index_or, All, AllPairs, Contains}
 use Rattle.inspection.specs.Sheets.{Sheet}
+use Rattle.inspection.specs.declared.offerings.Offering.{Offering}
+use Rattle.inspection.specs.declared.offerings.Offering.TheVariants.{Faces}
 use Rattle.near_faces.specs.declared.boxes.SweptBox.{SweptBox}
 use Rattle.near_faces.specs.declared.pairs.Pair.{Pair}
 use Rattle.near_faces.specs.Boxes.{box_around, meets, swept_boxes}
 
 abbrev pub pair : ℕ → ℕ → Pair
 pair i j = record { first = i; second = j }
+
+-- as it is offered
+abbrev pub offering_of : Pair → Offering
+offering_of p = Faces p.first p.second
 
 -- the pairs of a face with the later ones of a run that meet its box; the run begins at this number
 abbrev pub near_to : ℕ → SweptBox → ℕ → List SweptBox → List Pair
@@ -36,11 +42,11 @@ pub record Near (boxes : List SweptBox) (p : Pair) : Type 0 where
   pub within : p.second < length boxes
   pub meet : IsTrue (meets (box_at boxes p.first) (box_at boxes p.second))
 
-abbrev pub Before : Pair → Pair → Type 0
-Before p q = (p.first < q.first) ⊎ ((p.first ≡ q.first) × (p.second < q.second))
+abbrev pub PairBefore : Pair → Pair → Type 0
+PairBefore p q = (p.first < q.first) ⊎ ((p.first ≡ q.first) × (p.second < q.second))
 
 -- all near pairs and no other, in ascending order
 pub record NearPairs (boxes : List SweptBox) (ps : List Pair) : Type 0 where
   pub all : (p : Pair) → Near boxes p → Contains ps p
   pub only : All (Near boxes) ps
-  pub ascending : AllPairs Before ps
+  pub ascending : AllPairs PairBefore ps

@@ -28,8 +28,8 @@ notice_of_search TooManyPairs = notice 25 Search 0 0
 abbrev pub lowest_outside : Sheet → Option ℕ
 lowest_outside s = position (λ f. not (corners_inside s f)) s.faces
 
-abbrev pub corner_checks : Sheet → List Check
-corner_checks s =
+abbrev pub outside_checks : Sheet → List Check
+outside_checks s =
     let outside = lowest_outside s in
     check (is_some outside) 19 Search (unwrap_or outside 0) 0 ∷ []
 
@@ -43,7 +43,7 @@ abbrev pub search_checks : Draft → List Point → List Face → ℕ → ℕ �
 search_checks d ps fs nodes pairs =
     let s = sheet_in d ps fs in
     check (lacks_rows d ps fs) 16 Search 0 0
-    ∷ (corner_checks s ++ table_checks (swept_boxes s) nodes pairs)
+    ∷ (outside_checks s ++ table_checks (swept_boxes s) nodes pairs)
 
 -- the table of nodes, old before and new after: the tree is built unless a check before it fits
 abbrev pub NodesAfter : List SweptBox → Result ℕ SearchFault → List Node → List Node → Type 0

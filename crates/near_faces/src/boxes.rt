@@ -2,7 +2,8 @@
 ghost use Rattle.std.specs.Prelude.{◌≡◌, []};
 ghost use Rattle.std.specs.Int.{int_min, int_max};
 ghost use Rattle.inspection.specs.Sheets.{moving_of, sheet_of};
-ghost use Rattle.near_faces.specs.Boxes.{at_most, least_of, greatest_of, joined, meets, swept_if_inside, swept_by};
+ghost use Rattle.near_faces.specs.Boxes.{at_most, least_of, greatest_of, joined, meets};
+ghost use Rattle.near_faces.specs.inner.Swept.{swept_if_inside, swept_by};
 
 use sheet::{Coords, Face, Point};
 

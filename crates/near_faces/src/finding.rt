@@ -5,7 +5,7 @@ ghost use Rattle.sheet.specs.Sheet.{onto_front};
 ghost use Rattle.inspection.specs.Sheets.{sheet_in, sheet_of};
 ghost use Rattle.near_faces.specs.Boxes.{swept_boxes};
 ghost use Rattle.near_faces.specs.Near.{near, near_pairs, NearPairs};
-ghost use Rattle.near_faces.specs.Searches.{notice_of_search, search_checks, corner_checks, table_checks, NodesAfter};
+ghost use Rattle.near_faces.specs.Searches.{notice_of_search, search_checks, outside_checks, table_checks, NodesAfter};
 ghost use Rattle.near_faces.specs.Covering.{CoversSheet};
 
 use crate::boxes::SweptBox;
@@ -64,7 +64,7 @@ fn sweep(points: &[Point], faces: &[Face], boxes: &mut [SweptBox]) -> Result<(),
     requires few { length faces.now ≤ 4096 }
     requires room { length boxes.old ≡ length faces.now }
     ensures fault { fault_notice notice_of_search result
-        ≡ first_fit (corner_checks (sheet_of points.now faces.now)) }
+        ≡ first_fit (outside_checks (sheet_of points.now faces.now)) }
     ensures boxes { IfOk result (λ _. boxes.new ≡ swept_boxes (sheet_of points.now faces.now)) }
 {
     for i in 0..faces.len() {

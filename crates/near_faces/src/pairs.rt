@@ -3,12 +3,13 @@ ghost use Rattle.std.specs.Prelude.{◌≡◌, ◌+◌, ◌<◌, ◌≤◌, leng
 ghost use Rattle.std.specs.List.{list_any};
 ghost use Rattle.near_faces.specs.Trees.{IsTree};
 ghost use Rattle.near_faces.specs.Near.{near_to, near};
-ghost use Rattle.near_faces.specs.Listing.{marked, put};
-ghost use Rattle.near_faces.specs.Sides.{boxes_in};
+ghost use Rattle.near_faces.specs.inner.Listing.{marked, put};
+ghost use Rattle.near_faces.specs.inner.Sides.{boxes_in};
 
 use crate::boxes::SweptBox;
 use crate::nodes::{Node, lower_half};
 use crate::sides::Sides;
+use inspection::Offering;
 
 /// A run of up to so many faces is not halved further: all its boxes are tested.
 const RUN: usize = 512;
@@ -22,6 +23,17 @@ const STRIDE: usize = 16;
 pub struct Pair {
     pub first: u16,
     pub second: u16,
+}
+
+impl Pair {
+    ghost use Rattle.near_faces.specs.Near.{offering_of};
+
+    /// As it is offered to an inspection.
+    pub fn offering(self) -> Offering
+        ensures { result ≡ offering_of self }
+    {
+        Offering::Faces(self.first, self.second)
+    }
 }
 
 /// Writes as many of all pairs as there is room for, and answers how many there are.

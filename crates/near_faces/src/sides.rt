@@ -2,7 +2,7 @@
 ghost use Rattle.std.specs.Prelude.{◌≡◌, ◌+◌, ◌<◌, ◌≤◌, [], ◌∷◌, ◌++◌, length, map};
 ghost use Rattle.std.specs.List.{count_by};
 ghost use Rattle.near_faces.specs.Boxes.{meets};
-ghost use Rattle.near_faces.specs.Sides.{least_at, greatest_at, box_in, boxes_in};
+ghost use Rattle.near_faces.specs.inner.Sides.{least_at, greatest_at, box_in, boxes_in};
 
 use crate::boxes::{SweptBox, is_at_most};
 use sheet::{Coords, FACE_LIMIT};

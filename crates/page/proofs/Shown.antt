@@ -3,7 +3,7 @@ use Rattle.std.proofs.Common.{◌≡◌, ℕ, if◌then◌else◌, List, [], ◌
 use Rattle.std.proofs.Math.Seq.{take-append_seam, take-length}
 use Rattle.sheet.specs.Checks.{first_fit, fault_notice}
 use Rattle.sheet.specs.Faults.{notice_of_sheet}
-use Rattle.sheet.specs.Lines.{numbered}
+use Rattle.sheet.specs.Lines.{numbered_lines}
 use Rattle.sheet.specs.Sheet.{point_limit, face_limit, sheet_checks, draft_of, points_in, faces_in, onto_front}
 use Rattle.sheet.specs.declared.drafts.Draft.{Draft}
 use Rattle.sheet.specs.declared.faults.SheetFault.{SheetFault}
@@ -13,9 +13,9 @@ use Rattle.step.specs.Faults.{notice_of_step}
 use Rattle.step.specs.Laying.{lay_checks, with_ends}
 use Rattle.step.specs.declared.faults.StepFault.{StepFault}
 use Rattle.step.proofs.LayAnswers.{length_with_ends}
-use Rattle.printout.specs.Memory.{plan}
-use Rattle.printout.specs.Plans.{Plan, draft, sheet_fault, step_fault, resting_points, moving_points, faces}
-use Rattle.page.specs.Shown.{shown, TellsRows}
+use Rattle.plan.specs.Plans.{plan, Plan, draft, sheet_fault, step_fault, resting_points, moving_points, faces}
+use Rattle.page.specs.Shown.{shown}
+use Rattle.page.specs.inner.Told.{TellsRows}
 
 front : {X : Type 0} (rows table : List X) (n : ℕ) → n ≡ length rows → take n (onto_front rows table) ≡ rows
 front rows table n e = ap (λ k. take k (onto_front rows table)) e ∙ take-append_seam rows (drop (length rows) table)
@@ -36,7 +36,7 @@ module _ (text bytes : List ℕ) (ps : List Point) (fs : List Face) (m : length 
   tells_none x qs gs is = rw (fault_is ∙ ap (fault_notice notice_of_sheet) is) none
 
   module _ (d : Draft) (is : r ≡ Ok d) (draft_is : IfOk r (λ e. e ≡ draft_of text)) (qs : List Point) (gs : List Face)
-      (qs_is : qs ≡ (if is_ok r then onto_front (points_in (numbered text)) ps else ps)) (gs_is : gs ≡ (if is_ok r then onto_front (faces_in (numbered text)) fs else fs)) where
+      (qs_is : qs ≡ (if is_ok r then onto_front (points_in (numbered_lines text)) ps else ps)) (gs_is : gs ≡ (if is_ok r then onto_front (faces_in (numbered_lines text)) fs else fs)) where
     clean : sheet_fault p ≡ None
     clean = fault_is ∙ ap (fault_notice notice_of_sheet) is
 
@@ -45,12 +45,12 @@ module _ (text bytes : List ℕ) (ps : List Point) (fs : List Face) (m : length 
 
     rows_are : take d.points qs ≡ resting_points p
     rows_are =
-        ap (take d.points) (qs_is ∙ ap (λ x. if is_ok x then onto_front (points_in (numbered text)) ps else ps) is)
+        ap (take d.points) (qs_is ∙ ap (λ x. if is_ok x then onto_front (points_in (numbered_lines text)) ps else ps) is)
         ∙ front (resting_points p) ps d.points (ap (λ (k : Draft). k.points) d_is)
 
     faces_are : take d.faces gs ≡ faces p
     faces_are =
-        ap (take d.faces) (gs_is ∙ ap (λ x. if is_ok x then onto_front (faces_in (numbered text)) fs else fs) is)
+        ap (take d.faces) (gs_is ∙ ap (λ x. if is_ok x then onto_front (faces_in (numbered_lines text)) fs else fs) is)
         ∙ front (faces p) fs d.faces (ap (λ (k : Draft). k.faces) d_is)
 
     -- the step is laid onto just these rows

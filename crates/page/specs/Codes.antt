@@ -3,10 +3,10 @@ use Rattle.std.specs.Prelude.{ℕ}
 use Rattle.frames.specs.declared.frame_files.FrameFile.TheVariants.{Start, End}
 use Rattle.frames.specs.declared.frame_files.Recording.{Recording}
 use Rattle.frames.specs.declared.frame_files.Recording.TheVariants as recording
-use Rattle.printout.specs.declared.endings.Ending.{Ending}
-use Rattle.printout.specs.declared.endings.Ending.TheVariants as plan_ending
-use Rattle.two_frames.specs.declared.endings.FramesEnding.{FramesEnding}
-use Rattle.two_frames.specs.declared.endings.FramesEnding.TheVariants as ending
+use Rattle.plan.specs.declared.endings.Ending.{Ending}
+use Rattle.plan.specs.declared.endings.Ending.TheVariants as plan_ending
+use Rattle.works.specs.declared.two_frames.endings.FramesEnding.{FramesEnding}
+use Rattle.works.specs.declared.two_frames.endings.FramesEnding.TheVariants as ending
 
 abbrev pub code_of_plan : Ending → ℕ
 code_of_plan plan_ending.Complete = 0

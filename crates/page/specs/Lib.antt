@@ -1,2 +1,3 @@
 pub mod Codes
 pub mod Shown
+pub mod inner

@@ -1,12 +1,13 @@
 // A plan's three files.
 ghost use Rattle.std.specs.Prelude.{◌≡◌, ◌-◌, ◌^◌, ◌≤◌, length, min, take};
 ghost use Rattle.hosts.specs.Pages.{onto_page};
-ghost use Rattle.printout.specs.Memory.{plan};
-ghost use Rattle.printout.specs.Plans.{printout, ClaimOfPlan};
-ghost use Rattle.printout.specs.Settled.{SettlesPlanOnto};
+ghost use Rattle.plan.specs.Plans.{plan};
+ghost use Rattle.works.specs.inspect.Plans.{printout, ClaimOfPlan};
+ghost use Rattle.works.specs.inspect.Settled.{SettlesPlanOnto};
 ghost use Rattle.page.specs.Codes.{code_of_plan};
 
-use printout::{Ending, Tables, inspect_bytes};
+use plan::Ending;
+use works::inspect::{Tables, inspect_bytes};
 
 /// How an inspection ended, 0 complete or 1 with a fault, and how many bytes long are its text and
 /// the pairs that it refused.

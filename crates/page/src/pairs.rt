@@ -1,7 +1,7 @@
 // The pairs of faces to inspect.
 ghost use Rattle.std.specs.Prelude.{◌≡◌, ◌-◌, ◌^◌, [], length, min, IfSome, unwrap_or};
 ghost use Rattle.hosts.specs.Pages.{onto_page};
-ghost use Rattle.printout.specs.Memory.{plan};
+ghost use Rattle.plan.specs.Plans.{plan};
 ghost use Rattle.pairing.specs.Pairings.{pairing};
 ghost use Rattle.pairing.specs.Works.{Serves};
 ghost use Rattle.page.specs.Codes.{code_of_plan};
@@ -31,17 +31,17 @@ pub extern "C" fn page_near(
     line: &mut [u8],
 ) -> Paired
     ensures code { let o = pairing sheet.now step.now in
-        result.code ≡ code_of_plan o.ending }
+        result.code ≡ code_of_plan o.answer }
     ensures pairs { let o = pairing sheet.now step.now in
-        pairs.new ≡ onto_page (unwrap_or o.pairs_stored []) pairs.old }
+        pairs.new ≡ onto_page (unwrap_or o.stored []) pairs.old }
     ensures pairs_len { let o = pairing sheet.now step.now in
-        result.pairs_len ≡ min (length (unwrap_or o.pairs_stored [])) (2 ^ 64 - 1) }
+        result.pairs_len ≡ min (length (unwrap_or o.stored [])) (2 ^ 64 - 1) }
     ensures line { let o = pairing sheet.now step.now in
         line.new ≡ onto_page o.line line.old }
     ensures line_len { let o = pairing sheet.now step.now in
         result.line_len ≡ min (length o.line) (2 ^ 64 - 1) }
     ensures serves { let o = pairing sheet.now step.now in
-        IfSome o.pairs_stored (Serves (plan sheet.now step.now [])) }
+        IfSome o.stored (Serves (plan sheet.now step.now [])) }
 {
     let mut tables = Tables::new();
     let paired = pair_in_memory(

@@ -1,8 +1,9 @@
 // The rows of a sheet and its step, for a picture.
 ghost use Rattle.std.specs.Prelude.{◌≡◌, ◌≤◌, [], length, take};
 ghost use Rattle.sheet.specs.Sheet.{point_limit, face_limit, onto_front};
-ghost use Rattle.printout.specs.Memory.{plan};
-ghost use Rattle.page.specs.Shown.{shown, TellsRows};
+ghost use Rattle.plan.specs.Plans.{plan};
+ghost use Rattle.page.specs.Shown.{shown};
+ghost use Rattle.page.specs.inner.Told.{TellsRows};
 
 use sheet::{Draft, FACE_LIMIT, Face, POINT_LIMIT, Point, read_sheet};
 use step::lay;

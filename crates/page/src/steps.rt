@@ -3,7 +3,7 @@ ghost use Rattle.std.specs.Prelude.{◌≡◌, ◌-◌, ◌^◌, [], length, min
 ghost use Rattle.hosts.specs.Pages.{onto_page};
 ghost use Rattle.step.specs.Steps.{Step};
 ghost use Rattle.frames.specs.Frames.{frames, points_of, step_between};
-ghost use Rattle.frames.specs.Outcomes.{outcome, with_line_feed};
+ghost use Rattle.frames.specs.Outcomes.{outcome};
 ghost use Rattle.page.specs.Codes.{code_of_recording};
 
 use frames::{FrameFile, Recording, Tables, record_frames};
@@ -30,15 +30,15 @@ pub extern "C" fn page_record(
     ensures code { let f = frames start.now end.now in
         result.code ≡ code_of_recording (outcome f).answer }
     ensures record_bytes { let f = frames start.now end.now in
-        bytes.new ≡ onto_page (unwrap_or (outcome f).record_stored []) bytes.old }
+        bytes.new ≡ onto_page (unwrap_or (outcome f).stored []) bytes.old }
     ensures record_len { let f = frames start.now end.now in
-        result.record_len ≡ min (length (unwrap_or (outcome f).record_stored [])) (2 ^ 64 - 1) }
+        result.record_len ≡ min (length (unwrap_or (outcome f).stored [])) (2 ^ 64 - 1) }
     ensures line { let f = frames start.now end.now in
-        line.new ≡ onto_page (with_line_feed (outcome f).line) line.old }
+        line.new ≡ onto_page (outcome f).line line.old }
     ensures line_len { let f = frames start.now end.now in
-        result.line_len ≡ min (length (with_line_feed (outcome f).line)) (2 ^ 64 - 1) }
+        result.line_len ≡ min (length (outcome f).line) (2 ^ 64 - 1) }
     ensures means { let f = frames start.now end.now in
-        IfSome (outcome f).record_stored (λ bs. Step (points_of f.start) bs (step_between f)) }
+        IfSome (outcome f).stored (λ bs. Step (points_of f.start) bs (step_between f)) }
 {
     let mut tables = Tables::new();
     let recorded = record_frames(&mut tables, start, end, bytes, line);

@@ -2,13 +2,13 @@
 ghost use Rattle.std.specs.Prelude.{◌≡◌, ◌-◌, ◌^◌, ◌≤◌, length, min, take};
 ghost use Rattle.hosts.specs.Pages.{onto_page};
 ghost use Rattle.frames.specs.Frames.{frames};
-ghost use Rattle.two_frames.specs.Accounts.{account, sheet_between, Claims};
-ghost use Rattle.two_frames.specs.Settled.{SettlesFramesOnto};
+ghost use Rattle.works.specs.two_frames.Accounts.{account, account_text, account_refused, sheet_between, Claims};
+ghost use Rattle.works.specs.two_frames.Settled.{SettlesFramesOnto};
 ghost use Rattle.page.specs.Codes.{code_of_frames, refused_in};
 
 use crate::room::Room;
 use frames::FrameFile;
-use two_frames::{FramesEnding, Tables, inspect_frames};
+use works::two_frames::{FramesEnding, Tables, inspect_texts};
 
 /// How a run ended, 0 covered all pairs, 1 refused some, 2 a fault of the search, 3 of the first
 /// frame, 4 of the second, 5 that they differ; how many pairs were refused, and how many bytes long
@@ -39,24 +39,19 @@ pub extern "C" fn page_frames(
         result.code ≡ code_of_frames a.ending }
     ensures count { let a = account (frames start.now end.now) in
         result.refused ≡ refused_in a.ending }
-    ensures refused { let a = account (frames start.now end.now) in
-        refused.new ≡ onto_page a.refused refused.old }
-    ensures text { let a = account (frames start.now end.now) in
-        text.new ≡ onto_page a.text text.old }
-    ensures text_len { let a = account (frames start.now end.now) in
-        result.text_len ≡ min (length a.text) (2 ^ 64 - 1) }
+    ensures refused { let f = frames start.now end.now in
+        refused.new ≡ onto_page (account_refused f) refused.old }
+    ensures text { let f = frames start.now end.now in
+        text.new ≡ onto_page (account_text f) text.old }
+    ensures text_len { let f = frames start.now end.now in
+        result.text_len ≡ min (length (account_text f)) (2 ^ 64 - 1) }
     ensures claims { let f = frames start.now end.now in Claims f (account f).ending }
     ensures settles { let printed = take result.text_len text.new in
         result.text_len ≤ length text.new
         → SettlesFramesOnto (sheet_between (frames start.now end.now)) printed refused.old refused.new }
 {
     let mut tables = Tables::new();
-    let Room {
-        near,
-        bytes,
-        offered,
-    } = room;
-    let account = inspect_frames(&mut tables, near, bytes, offered, start, end, text, refused);
+    let account = inspect_texts(&mut tables, &mut room.near, start, end, text, refused);
     Accounted {
         code: code_of_frames(account.ending),
         refused: refused_in(account.ending),

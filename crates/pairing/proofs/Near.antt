@@ -1,11 +1,11 @@
 -- The search over tables that hold a plan, and what the stored pairs are for.
-use Rattle.std.proofs.Common.{nat_lt, Some, lit≤, ◌≤◌, ◌∷◌, ◌++◌, ◌≡◌, Bool, false, List, length, take, None, Option, IfSome, IsFalse, ◌||◌, refl, sym, ap, ◌∙◌, arith, subst}
+use Rattle.std.proofs.Common.{nat_lt, Some, lit≤, ◌∷◌, ◌++◌, ◌≡◌, Bool, false, List, length, take, None, Option, IfSome, IsFalse, ◌||◌, refl, sym, ap, ◌∙◌, arith, subst}
 use Rattle.std.proofs.Math.Seq.{take-length}
 use Rattle.std.proofs.lemmas.Bool.{le-ltb}
 use Rattle.std.proofs.lemmas.List.{length-map}
 use Rattle.sheet.proofs.FirstFit.{no_fit}
 use Rattle.sheet.proofs.Sound.{sound}
-use Rattle.sheet.specs.Lines.{numbered}
+use Rattle.sheet.specs.Lines.{numbered_lines}
 use Rattle.sheet.specs.Sheet.{point_limit, face_limit, text_limit, no_rows, room_in, lines_checks}
 use Rattle.sheet.specs.Checks.{first_fit, check}
 use Rattle.sheet.specs.IsSheet.{IsSheet}
@@ -20,12 +20,14 @@ use Rattle.inspection.specs.Sheets.{Sheet, sheet_of, sheet_in}
 use Rattle.near_faces.specs.Boxes.{swept_box, swept_boxes}
 use Rattle.near_faces.specs.Covering.{CoversSheet}
 use Rattle.near_faces.specs.Near.{near_pairs}
-use Rattle.near_faces.specs.Searches.{search_checks, corner_checks, table_checks}
+use Rattle.near_faces.specs.Searches.{search_checks, outside_checks, table_checks}
 use Rattle.near_faces.proofs.Completing.{complete}
 use Rattle.near_faces.proofs.Covering.{covering}
-use Rattle.printout.specs.Plans.{Plan, draft, resting_points, moving_points, faces, sheet, fault, sheet_fault, step_fault, or_else}
-use Rattle.printout.specs.Progress.{HoldsPlan}
-use Rattle.pairing.specs.Pairings.{node_room, pair_room, search_fault, unless_faulty, paired, pairing, pairing_in}
+use Rattle.plan.specs.Plans.{Plan, draft, resting_points, moving_points, faces, sheet, fault, sheet_fault, step_fault, or_else}
+use Rattle.plan.specs.Reading.{HoldsPlan}
+use Rattle.hosts.specs.Writing.{or_tells}
+use Rattle.pairing.specs.Pairings.{node_room, pair_room, search_fault, told_fault, paired, pairing}
+use Rattle.pairing.specs.inner.Tables.{pairing_in}
 use Rattle.pairing.specs.Works.{Serves}
 use Rattle.pairing.proofs.PairBytes.{read_back}
 
@@ -45,15 +47,15 @@ module _ (p : Plan) where
 
   -- the fault of a search over a sheet's tables
   searched : Bool → Sheet → Option Notice
-  searched lacks s = first_fit (check lacks 16 Search 0 0 ∷ (corner_checks s ++ table_checks (swept_boxes s) node_room pair_room))
+  searched lacks s = first_fit (check lacks 16 Search 0 0 ∷ (outside_checks s ++ table_checks (swept_boxes s) node_room pair_room))
 
   pub same_pairing : (d : Draft) (ps : List Point) (fs : List Face) → HoldsPlan p d ps fs → IsFalse (lacks_rows d ps fs) → pairing_in d ps fs ≡ pairing p.sheet p.step
   unfolding pairing_in searched
   same_pairing d ps fs h rows =
       let found : first_fit (search_checks d ps fs node_room pair_room) ≡ search_fault p =
       (λ i. searched (rows i) (h.sheet i)) ∙ sym (λ i. searched (own_rows i) (own_sheet i)) in
-      (λ i. unless_faulty (found i) (paired (h.draft i).faces (near_pairs (h.sheet i))))
-      ∙ sym (ap (λ o. unless_faulty o (unless_faulty (search_fault p) (paired (draft p).faces (near_pairs (sheet p))))) h.no_fault)
+      (λ i. or_tells (found i) told_fault (paired (h.draft i).faces (near_pairs (h.sheet i))))
+      ∙ sym (ap (λ o. or_tells o told_fault (or_tells (search_fault p) told_fault (paired (draft p).faces (near_pairs (sheet p))))) h.no_fault)
 
   -- ---- what is stored
   pub covered : CoversSheet (draft p) (sheet p) (near_pairs (sheet p))
@@ -63,14 +65,14 @@ module _ (p : Plan) where
   is_sheet good =
       let long = check (nat_lt text_limit (length p.sheet)) 6 SheetLayer 0 0 in
       let room = room_in point_limit face_limit in
-      let lines = lines_checks room no_rows (numbered p.sheet) in
-      sound room (numbered p.sheet) (resting_points p) (faces p) (lit≤ tt) (lit≤ tt) (sym (no_fit long lines good).1) refl refl
+      let lines = lines_checks room no_rows (numbered_lines p.sheet) in
+      sound room (numbered_lines p.sheet) (resting_points p) (faces p) (lit≤ tt) (lit≤ tt) (sym (no_fit long lines good).1) refl refl
 
   pub sheet_first : (a b : Option Notice) → or_else a b ≡ None → a ≡ None
   sheet_first None b h = refl
   sheet_first (Some n) b h = h
 
-  by_cases : (a b : Option Notice) → fault p ≡ a → IfSome (unless_faulty a (unless_faulty b (paired (draft p).faces (near_pairs (sheet p))))).pairs_stored (Serves p)
+  by_cases : (a b : Option Notice) → fault p ≡ a → IfSome (or_tells a told_fault (or_tells b told_fault (paired (draft p).faces (near_pairs (sheet p))))).stored (Serves p)
   by_cases None None is =
       let boxes = swept_boxes (sheet p) in
       let near = complete boxes in
@@ -83,5 +85,5 @@ module _ (p : Plan) where
       }
   by_cases a b is = tt
 
-  pub serves : IfSome (pairing p.sheet p.step).pairs_stored (Serves p)
+  pub serves : IfSome (pairing p.sheet p.step).stored (Serves p)
   serves = by_cases (fault p) (search_fault p) refl

@@ -7,8 +7,9 @@ use Rattle.inspection.specs.declared.offerings.Offering.TheVariants.{Faces}
 use Rattle.near_faces.specs.declared.boxes.SweptBox.{SweptBox}
 use Rattle.near_faces.specs.declared.pairs.Pair.{Pair}
 use Rattle.near_faces.specs.Near.{Near}
-use Rattle.printout.specs.PairBytes.{number_of, offerings_in}
-use Rattle.pairing.specs.Pairings.{offering_of, pairs_bytes}
+use Rattle.plan.specs.PairBytes.{number_of, offerings_in}
+use Rattle.near_faces.specs.Near.{offering_of}
+use Rattle.pairing.specs.Pairings.{pairs_bytes}
 
 number_back : (n : ℕ) → n < 2 ^ 16 → number_of (byte_at 0 n) (byte_at 1 n) ≡ n
 number_back n h = omega (arith, from_le_bytes-to_le_bytes_2 n h)

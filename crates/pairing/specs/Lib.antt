@@ -1,4 +1,3 @@
-pub mod Memory
 pub mod Pairings
-pub mod Reading
 pub mod Works
+pub mod inner

@@ -6,11 +6,10 @@ mod finding;
 mod lines;
 mod memory;
 mod plans;
-mod reading;
 mod tables;
-mod telling;
 mod writing;
 
+pub use finding::{find_pairs, print_pairs};
 pub use memory::{Paired, pair_in_memory};
 pub use plans::pair_plan;
-pub use tables::{PAIR_BYTES, PAIR_LIMIT, Tables};
+pub use tables::{NODE_LIMIT, PAIR_BYTES, PAIR_LIMIT, Tables};

@@ -2,12 +2,10 @@
 ghost use Rattle.pairing.specs.Works.{FindsPairs};
 
 use crate::finding::pair_sheet;
-use crate::reading::read_plan;
 use crate::tables::{PAIR_BYTES, PAIR_LIMIT, Tables};
-use crate::telling::tell_fault;
 use hosts::Host;
 use near_faces::Pair;
-use printout::{Ending, PlanFile};
+use plan::{Ending, PlanFile, read_plan, tell_fault};
 
 /// Finds the pairs of faces to inspect in a plan: reads its sheet and its step, stores the bytes of
 /// all near pairs, and prints the line that tells how many there are. Where there is a fault, it prints
@@ -21,15 +19,9 @@ pub fn pair_plan<H: Host<File = PlanFile>>(
 ) -> Result<Ending, H::Error>
     ensures { FindsPairs H.does H.fails host.old result host.new }
 {
-    let Tables {
-        text,
-        step,
-        points,
-        faces,
-        nodes,
-    } = tables;
-    match read_plan(text, step, points, faces, host)? {
-        Ok(draft) => pair_sheet(&draft, points, faces, nodes, near, bytes, host),
+    let Tables { plan, nodes } = tables;
+    match read_plan(plan, host)? {
+        Ok(draft) => pair_sheet(&draft, &plan.points, &plan.faces, nodes, near, bytes, host),
         Err(notice) => tell_fault(notice, host),
     }
 }

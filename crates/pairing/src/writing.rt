@@ -1,10 +1,12 @@
 // The bytes of pairs.
 ghost use Rattle.std.specs.Prelude.{◌≡◌, ◌*◌, ◌≤◌, length};
 ghost use Rattle.sheet.specs.Sheet.{onto_front};
-ghost use Rattle.printout.specs.Walks.{pair_bytes};
-ghost use Rattle.pairing.specs.Pairings.{offering_of, pairs_bytes};
+ghost use Rattle.near_faces.specs.Near.{offering_of};
+ghost use Rattle.pairing.specs.Pairings.{pairs_bytes};
 
+use inspection::Offering;
 use near_faces::Pair;
+use plan::pair_bytes;
 
 /// The bytes of these pairs, written into the buffer.
 pub(crate) fn put_pairs<'a>(pairs: &[Pair], buffer: &'a mut [u8]) -> &'a [u8]
@@ -23,17 +25,8 @@ fn put_each(pairs: &[Pair], buffer: &mut [u8]) -> usize
 {
     let mut at = 0;
     for pair in pairs {
-        buffer[at..at + 4].copy_from_slice(&bytes_of(*pair));
+        buffer[at..at + 4].copy_from_slice(&pair_bytes(pair.offering()));
         at += 4;
     }
     at
-}
-
-/// The bytes that hold a pair: the lower number first, and of each number the lower byte.
-fn bytes_of(pair: Pair) -> [u8; 4]
-    ensures { result ≡ pair_bytes (offering_of pair) }
-{
-    let [a, b] = pair.first.to_le_bytes();
-    let [c, d] = pair.second.to_le_bytes();
-    [a, b, c, d]
 }

@@ -1,10 +1,10 @@
 // Where a plan's files lie, and where its pairs are stored.
 ghost use Rattle.std.specs.Prelude.{IfOk};
 
-use files::{FilePaths, Last};
+use plan::{Ending, PlanFile};
 use plans::Paths as PlanPaths;
-use printout::{Ending, PlanFile};
 use std::alloc::{AllocError, Global};
+use system::{FilePaths, Last};
 
 /// The paths of a plan's files, of which the pairs are stored.
 #[derive(Drop)]
@@ -25,17 +25,17 @@ impl Paths {
 }
 
 impl FilePaths for Paths {
-    ghost use Rattle.pairings.specs.PairPaths.{path_of, pairs_path, lasts};
+    ghost use Rattle.pairings.specs.PairPaths.{pair_path, pairs_path, pair_lasts};
 
     type File = PlanFile;
 
     type Answer = Ending;
 
-    ghost path_of = { path_of };
+    ghost path_of = { pair_path };
 
     ghost target_of = { pairs_path };
 
-    ghost lasts_of = { lasts };
+    ghost lasts_of = { pair_lasts };
 
     fn path(&self, file: PlanFile) -> &str {
         self.plan.path(file)

@@ -2,10 +2,10 @@
 ghost use Rattle.pairings.specs.Runs.{PairsFolder};
 
 use crate::paths::Paths;
-use files::{Disk, OnDisk};
 use near_faces::Pair;
 use pairing::{PAIR_BYTES, PAIR_LIMIT, Tables, pair_plan};
-use printout::{Ending, PlanFile};
+use plan::{Ending, PlanFile};
+use system::{Disk, OnDisk};
 
 /// Finds the pairs of the plan whose files are placed on a disk. Pairs that were stored are kept
 /// before the line that tells their number goes out.

@@ -2,10 +2,10 @@
 ghost use Rattle.std.specs.Prelude.{◌≡◌, IfOk};
 ghost use Rattle.plans.specs.PlanPaths.{file_name};
 
-use files::{FilePaths, Last};
-use printout::{Ending, PlanFile};
+use plan::{Ending, PlanFile};
 use std::alloc::{AllocError, Global};
 use std::path::{Path, PathBuf};
+use system::{FilePaths, Last};
 
 /// The paths of a plan's files, and of the file that its refused pairs are stored in, if they are.
 #[derive(Drop)]
@@ -39,17 +39,17 @@ impl Paths {
 }
 
 impl FilePaths for Paths {
-    ghost use Rattle.plans.specs.PlanPaths.{path_of, refused_path, lasts};
+    ghost use Rattle.plans.specs.PlanPaths.{plan_path, refused_path, plan_lasts};
 
     type File = PlanFile;
 
     type Answer = Ending;
 
-    ghost path_of = { path_of };
+    ghost path_of = { plan_path };
 
     ghost target_of = { refused_path };
 
-    ghost lasts_of = { lasts };
+    ghost lasts_of = { plan_lasts };
 
     fn path(&self, file: PlanFile) -> &str {
         match file {

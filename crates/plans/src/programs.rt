@@ -3,10 +3,11 @@ ghost use Rattle.std.specs.Prelude.{◌≤◌};
 
 use crate::paths::Paths;
 use crate::runs::{inspect_on_disk, status};
-use files::{FilePaths, Machine, OnDisk, Watched, may_store, site_name, tell};
-use printout::{Ending, PlanFile, Tables};
+use plan::{Ending, PlanFile};
 use sheet::{Layer, Notice};
+use system::{FilePaths, Machine, OnDisk, Watched, may_store, site_name, tell};
 use telling::{tell_fault, tell_refused};
+use works::inspect::Tables;
 
 /// What is told on a terminal: how many pairs are done.
 const PAIRS: Watched<PlanFile> = Watched {

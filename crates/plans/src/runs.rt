@@ -1,10 +1,11 @@
 // A whole run over a folder.
 ghost use Rattle.std.specs.Prelude.{◌≡◌};
-ghost use Rattle.plans.specs.Runs.{InspectsFolder, status_after};
+ghost use Rattle.plans.specs.Runs.{InspectsFolder, plan_status};
 
 use crate::paths::Paths;
-use files::{Disk, OnDisk};
-use printout::{Ending, PlanFile, Tables, inspect_plan};
+use plan::{Ending, PlanFile};
+use system::{Disk, OnDisk};
+use works::inspect::{Tables, inspect_plan};
 
 /// Inspects the plan whose files are placed on a disk. At the end, or before an error is answered,
 /// all that was printed goes out; then the refused pairs that were stored are kept.
@@ -20,7 +21,7 @@ pub fn inspect_on_disk<D: Disk<PlanFile>>(
 
 /// The exit status after a run.
 pub fn status<E>(run: &Result<Ending, E>) -> u8
-    ensures { result ≡ status_after run.now }
+    ensures { result ≡ plan_status run.now }
 {
     match run {
         Ok(Ending::Complete) => 0,

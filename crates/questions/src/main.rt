@@ -4,16 +4,15 @@
 mod asking;
 
 use asking::ask_about_list;
-use commands::{About, Given, given};
-use files::tell;
 use filters::DELIVERED;
-use inspection::{Inspection, List, Marked};
-use printout::pair_offerings;
+use inspection::{Inspection, Lists, Marked};
+use plan::pair_offerings;
 use sheet::{FACE_LIMIT, Face, Notice, POINT_LIMIT, Point, read_sheet};
 use std::alloc::AllocError;
 use std::process::ExitCode;
 use std::{fs, io};
 use step::lay;
+use system::{About, Given, given, tell};
 use telling::{tell_fault, tell_refused};
 
 /// The most entries of a list.
@@ -116,22 +115,21 @@ fn ask_in_folder(rt: &HostRuntime, folder: &str) -> Result<u8, Stop> {
     }
     let mut vf_table = [Marked::default(); ENTRIES];
     let mut ee_table = [Marked::default(); ENTRIES];
-    let mut vf = List::new(&mut vf_table);
-    let mut ee = List::new(&mut ee_table);
-    let mut inspection = match Inspection::open(draft, DELIVERED, DEPTH, &mut vf, &mut ee) {
+    let mut lists = Lists::new(&mut vf_table, &mut ee_table);
+    let mut inspection = match Inspection::open(draft, DELIVERED, DEPTH, &mut lists) {
         Ok(inspection) => inspection,
         Err(refused) => return refuse(rt, folder, "sheet.obj", refused.fault.notice()),
     };
     let pairs = read(rt, folder, "pairs.bin")?;
     let mut refused = 0u64;
     for what in pair_offerings(&pairs) {
-        if let Err(fault) = inspection.offer(&points, &faces, &mut vf, &mut ee, what) {
+        if let Err(fault) = inspection.offer(&points, &faces, &mut lists, what) {
             println!(rt; "{}", fault.notice()).map_err(Stop::Output)?;
             refused = refused.saturating_add(1);
         }
     }
-    ask_about_list(rt, &inspection, &points, &faces, &vf).map_err(Stop::Output)?;
-    ask_about_list(rt, &inspection, &points, &faces, &ee).map_err(Stop::Output)?;
+    ask_about_list(rt, &inspection, &points, &faces, &lists.vf).map_err(Stop::Output)?;
+    ask_about_list(rt, &inspection, &points, &faces, &lists.ee).map_err(Stop::Output)?;
     let path = path_of(rt, folder, "pairs.bin")?;
     tell_refused(rt, path.as_str(), refused, "");
     Ok(0)

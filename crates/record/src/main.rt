@@ -1,9 +1,9 @@
 // record START.obj END.obj STEP.bin: makes the record of the step between two frames of one sheet.
 #![tactic(auto)]
 
-use commands::{About, given};
 use recordings::{Paths, record_frames};
 use std::process::ExitCode;
+use system::{About, given};
 
 const HELP: &str = "\
 usage: record START.obj END.obj STEP.bin

@@ -1,6 +1,6 @@
 // Where the frames and the record lie.
-use files::{FilePaths, Last};
 use frames::{FrameFile, Recording};
+use system::{FilePaths, Last};
 
 /// The paths of the two frames, and of the record.
 #[derive(Drop)]
@@ -11,17 +11,17 @@ pub struct Paths {
 }
 
 impl FilePaths for Paths {
-    ghost use Rattle.recordings.specs.FramePaths.{path_of, step_path, lasts};
+    ghost use Rattle.recordings.specs.FramePaths.{record_path, step_path, record_lasts};
 
     type File = FrameFile;
 
     type Answer = Recording;
 
-    ghost path_of = { path_of };
+    ghost path_of = { record_path };
 
     ghost target_of = { step_path };
 
-    ghost lasts_of = { lasts };
+    ghost lasts_of = { record_lasts };
 
     fn path(&self, file: FrameFile) -> &str {
         match file {

@@ -3,8 +3,8 @@ ghost use Rattle.std.specs.Prelude.{◌≤◌};
 
 use crate::paths::Paths;
 use crate::runs::{record_on_disk, status};
-use files::{FilePaths, Machine, OnDisk, may_store, site_name, tell};
 use frames::{Recording, Tables};
+use system::{FilePaths, Machine, OnDisk, may_store, site_name, tell};
 use telling::{tell_difference, tell_fault};
 
 /// Records the step between two frames: the exit status. What stops the run is told: a fault of a

@@ -1,10 +1,10 @@
 // A whole run over two frames.
 ghost use Rattle.std.specs.Prelude.{◌≡◌};
-ghost use Rattle.recordings.specs.Runs.{RecordsFrames, status_after};
+ghost use Rattle.recordings.specs.Runs.{RecordsFrames, record_status};
 
 use crate::paths::Paths;
-use files::{Disk, OnDisk};
 use frames::{FrameFile, Recording, Tables, record_step};
+use system::{Disk, OnDisk};
 
 /// Records the step between two frames that are placed on a disk. A record that was stored is kept
 /// before the line that tells it goes out.
@@ -20,7 +20,7 @@ pub fn record_on_disk<D: Disk<FrameFile>>(
 
 /// The exit status after a run.
 pub fn status<E>(run: &Result<Recording, E>) -> u8
-    ensures { result ≡ status_after run.now }
+    ensures { result ≡ record_status run.now }
 {
     match run {
         Ok(Recording::Recorded) => 0,

@@ -2,10 +2,10 @@
 use Rattle.std.proofs.Common.{◌≡◌, ℕ, ◌+◌, ◌<◌, List, ◌++◌, length, take, drop, min, flat_map, get_or, Result, sym, ap, ◌∙◌}
 use Rattle.std.proofs.lemmas.List.{at_drop_more, take_min, take-map}
 use Rattle.hosts.specs.Events.{Event, Call}
-use Rattle.hosts.specs.Works.{Prints}
+use Rattle.hosts.specs.Writing.{Prints}
 use Rattle.inspection.specs.declared.marks.Marked.{Marked}
 use Rattle.inspection.specs.Lists.{names}
-use Rattle.report.specs.Reports.{entry_limit, numbered}
+use Rattle.report.specs.Reports.{entry_limit, numbered_entries}
 
 -- with what is left to print after t, all is printed from s on
 abbrev pub Leaves : {S F X : Type 0} → (S → Event F → S → Type 0) → (S → Call F → X → S → Type 0) → List ℕ → List ℕ → S → S → Type 0
@@ -13,7 +13,7 @@ Leaves {S} {F} {X} does fails all left s t = (r : Result (Unit {0}) X) (u : S) �
 
 module _ {E : Type 0} where
   -- the names of a table's front
-  pub names_numbered : (ps : List (Marked E)) → names (take (min entry_limit (length ps)) ps) ≡ numbered (names ps)
+  pub names_numbered : (ps : List (Marked E)) → names (take (min entry_limit (length ps)) ps) ≡ numbered_entries (names ps)
   names_numbered ps = ap names (take_min entry_limit ps) ∙ sym (take-map (λ p. p.name) entry_limit ps)
 
   -- what is left: the line of this entry, and then those of the others

@@ -21,10 +21,11 @@ use Rattle.inspection.proofs.NamingLaws.{NamingLaws, alike, vf_laws, ee_laws}
 use Rattle.inspection.specs.Names.{vf_same, ee_same}
 use Rattle.inspection.specs.Offerings.{SameOffering}
 use Rattle.inspection.specs.Sheets.{Sheet}
+use Rattle.inspection.specs.States.{Entries}
 use Rattle.inspection.specs.Tallies.{tally_in}
 use Rattle.inspection.specs.Tests.{Naming, vf_naming, ee_naming}
-use Rattle.report.specs.Lines.{word_of, spaced, line, window_parts, vf_line, ee_line, count_line}
-use Rattle.report.specs.Reports.{View, entry_line, numbered, section, report_text}
+use Rattle.report.specs.Lines.{kind_word, spaced, line, window_parts, vf_line, ee_line, count_line}
+use Rattle.report.specs.Reports.{View, entry_line, numbered_entries, section, report_text}
 use Rattle.report.specs.Settled.{IsTold, TestsSettled, Settled, is_fault}
 use Rattle.report.proofs.WholeLines.{no_feed, AreLines, are_one, are_more, are_each, no_feed-append, no_feed-decimal}
 
@@ -36,8 +37,8 @@ no_feed-spaced (p ∷ ps) h =
     no_feed-append (codes " " ++ p) (spaced ps) (no_feed-append (codes " ") p refl both.0) (no_feed-spaced ps both.1)
 
 no_feed-line : (l : Kind) (ps : List (List ℕ)) → list_all no_feed ps ≡ true → no_feed (line l ps) ≡ true
-no_feed-line Vf ps h = no_feed-append (word_of Vf) (spaced ps) refl (no_feed-spaced ps h)
-no_feed-line Ee ps h = no_feed-append (word_of Ee) (spaced ps) refl (no_feed-spaced ps h)
+no_feed-line Vf ps h = no_feed-append (kind_word Vf) (spaced ps) refl (no_feed-spaced ps h)
+no_feed-line Ee ps h = no_feed-append (kind_word Ee) (spaced ps) refl (no_feed-spaced ps h)
 
 no_feed-window : (w : Option (ℕ × ℕ)) → list_all no_feed (window_parts w) ≡ true
 no_feed-window None = refl
@@ -83,25 +84,25 @@ module _ {E : Type 0} (n : Naming E) (l : Kind) (v : View) (line_of : E → Opti
 
   module _ (es : List E) (t : Tally) where
     abbrev section_lines : List (List ℕ)
-    section_lines = map lined (numbered es) ++ (count_line l t ∷ [])
+    section_lines = map lined (numbered_entries es) ++ (count_line l t ∷ [])
 
     section_are : AreLines (section n l v line_of es t) section_lines
     section_are =
-        are_more (flat_map (entry_line n v line_of) (numbered es)) (count_line l t ++ codes "\n") (map lined (numbered es)) (count_line l t ∷ [])
-        (are_each lined (λ e. whole e _) (numbered es)) (are_one (count_line l t) (no_feed-count l t))
+        are_more (flat_map (entry_line n v line_of) (numbered_entries es)) (count_line l t ++ codes "\n") (map lined (numbered_entries es)) (count_line l t ∷ [])
+        (are_each lined (λ e. whole e _) (numbered_entries es)) (are_one (count_line l t) (no_feed-count l t))
 
     section_plain : All IsPlain section_lines
     section_plain =
-        All-append IsPlain (map lined (numbered es)) (count_line l t ∷ []) (each (numbered es)) (All-cons IsPlain (count_line l t) [] (count_plain l t) (All-nil IsPlain))
+        All-append IsPlain (map lined (numbered_entries es)) (count_line l t ∷ []) (each (numbered_entries es)) (All-cons IsPlain (count_line l t) [] (count_plain l t) (All-nil IsPlain))
       where
         each : (xs : List E) → All IsPlain (map lined xs)
         each [] = All-nil IsPlain
         each (x ∷ xs) = All-cons IsPlain (lined x) (map lined xs) (inner x _) (each xs)
 
-    in_section : (e : E) → Contains (numbered es) e → Contains section_lines (lined e)
+    in_section : (e : E) → Contains (numbered_entries es) e → Contains section_lines (lined e)
     in_section e (k, here, is) =
-        Contains-append_left (map lined (numbered es)) (count_line l t ∷ []) (lined e)
-        (k, omega (arith, length-map (numbered es) lined), get_or-map lined (numbered es) k e ∙ ap lined is)
+        Contains-append_left (map lined (numbered_entries es)) (count_line l t ∷ []) (lined e)
+        (k, omega (arith, length-map (numbered_entries es) lined), get_or-map lined (numbered_entries es) k e ∙ ap lined is)
 
 vf_plain : (e : VfName) (w : Option (ℕ × ℕ)) → IsPlain (vf_line e w)
 vf_plain e w = record { inner = record { covered = refl; refused = refl }; fault = refl }
@@ -116,45 +117,45 @@ ee_equal : (x y : EeName) → ee_same x y ≡ true → x ≡ y
 ee_equal x y h = grind (arith, nat_tests)
 
 -- ---- of both lists
-module _ (v : View) (vf : List VfName) (ee : List EeName) where
+module _ (v : View) (es : Entries) where
   abbrev vf_lines : List (List ℕ)
-  vf_lines = section_lines vf_naming Vf v vf_line no_feed-vf vf_plain vf (tally_in Vf v.core.tallies)
+  vf_lines = section_lines vf_naming Vf v vf_line no_feed-vf vf_plain es.vf (tally_in Vf v.core.tallies)
 
   abbrev ee_lines : List (List ℕ)
-  ee_lines = section_lines ee_naming Ee v ee_line no_feed-ee ee_plain ee (tally_in Ee v.core.tallies)
+  ee_lines = section_lines ee_naming Ee v ee_line no_feed-ee ee_plain es.ee (tally_in Ee v.core.tallies)
 
   pub report_lines : List (List ℕ)
   report_lines = vf_lines ++ ee_lines
 
-  pub report_are : AreLines (report_text v vf ee) report_lines
+  pub report_are : AreLines (report_text v es) report_lines
   unfolding report_text report_lines
   report_are =
-      are_more (section vf_naming Vf v vf_line vf (tally_in Vf v.core.tallies)) (section ee_naming Ee v ee_line ee (tally_in Ee v.core.tallies)) vf_lines ee_lines
-      (section_are vf_naming Vf v vf_line no_feed-vf vf_plain vf (tally_in Vf v.core.tallies))
-      (section_are ee_naming Ee v ee_line no_feed-ee ee_plain ee (tally_in Ee v.core.tallies))
+      are_more (section vf_naming Vf v vf_line es.vf (tally_in Vf v.core.tallies)) (section ee_naming Ee v ee_line es.ee (tally_in Ee v.core.tallies)) vf_lines ee_lines
+      (section_are vf_naming Vf v vf_line no_feed-vf vf_plain es.vf (tally_in Vf v.core.tallies))
+      (section_are ee_naming Ee v ee_line no_feed-ee ee_plain es.ee (tally_in Ee v.core.tallies))
 
   pub report_plain : All IsPlain report_lines
   unfolding report_lines
   report_plain =
       All-append IsPlain vf_lines ee_lines
-      (section_plain vf_naming Vf v vf_line no_feed-vf vf_plain vf (tally_in Vf v.core.tallies))
-      (section_plain ee_naming Ee v ee_line no_feed-ee ee_plain ee (tally_in Ee v.core.tallies))
+      (section_plain vf_naming Vf v vf_line no_feed-vf vf_plain es.vf (tally_in Vf v.core.tallies))
+      (section_plain ee_naming Ee v ee_line no_feed-ee ee_plain es.ee (tally_in Ee v.core.tallies))
 
   -- what is listed has its line
-  pub vf_told : (e : VfName) → has vf_same e (numbered vf) ≡ true → (w : Option (ℕ × ℕ)) × Contains report_lines (vf_line e w)
+  pub vf_told : (e : VfName) → has vf_same e (numbered_entries es.vf) ≡ true → (w : Option (ℕ × ℕ)) × Contains report_lines (vf_line e w)
   unfolding report_lines
   vf_told e h = (
     window_at v.set v.core.depth (vf_naming.shape v.sheet e),
     Contains-append_left vf_lines ee_lines _
-        (in_section vf_naming Vf v vf_line no_feed-vf vf_plain vf (tally_in Vf v.core.tallies) e (Contains-from_any vf_equal e (numbered vf) h)),
+        (in_section vf_naming Vf v vf_line no_feed-vf vf_plain es.vf (tally_in Vf v.core.tallies) e (Contains-from_any vf_equal e (numbered_entries es.vf) h)),
   )
 
-  pub ee_told : (e : EeName) → has ee_same e (numbered ee) ≡ true → (w : Option (ℕ × ℕ)) × Contains report_lines (ee_line e w)
+  pub ee_told : (e : EeName) → has ee_same e (numbered_entries es.ee) ≡ true → (w : Option (ℕ × ℕ)) × Contains report_lines (ee_line e w)
   unfolding report_lines
   ee_told e h = (
     window_at v.set v.core.depth (ee_naming.shape v.sheet e),
     Contains-append_right vf_lines ee_lines _
-        (in_section ee_naming Ee v ee_line no_feed-ee ee_plain ee (tally_in Ee v.core.tallies) e (Contains-from_any ee_equal e (numbered ee) h)),
+        (in_section ee_naming Ee v ee_line no_feed-ee ee_plain es.ee (tally_in Ee v.core.tallies) e (Contains-from_any ee_equal e (numbered_entries es.ee) h)),
   )
 
 -- ---- what is not listed stays apart, and what is listed is told

@@ -7,9 +7,9 @@ use Rattle.motion.specs.declared.shapes.Kind.{Kind}
 use Rattle.motion.specs.declared.shapes.Kind.TheVariants.{Vf, Ee}
 
 -- the word that the lines of a list begin with
-abbrev pub word_of : Kind → List ℕ
-word_of Vf = codes "VF"
-word_of Ee = codes "EE"
+abbrev pub kind_word : Kind → List ℕ
+kind_word Vf = codes "VF"
+kind_word Ee = codes "EE"
 
 -- one space before each part
 abbrev pub spaced : List (List ℕ) → List ℕ
@@ -17,7 +17,7 @@ spaced [] = []
 spaced (p ∷ ps) = (codes " " ++ p) ++ spaced ps
 
 abbrev pub line : Kind → List (List ℕ) → List ℕ
-line l parts = word_of l ++ spaced parts
+line l parts = kind_word l ++ spaced parts
 
 -- a window, which may be absent
 abbrev pub window_parts : Option (ℕ × ℕ) → List (List ℕ)

@@ -11,9 +11,7 @@ use Rattle.inspection.specs.Sheets.{Sheet, sheet_in}
 use Rattle.inspection.specs.Tests.{Naming, vf_naming, ee_naming}
 use Rattle.inspection.specs.declared.classes.Tally.{Tally}
 use Rattle.inspection.specs.declared.inspections.Inspection.{Inspection}
-use Rattle.inspection.specs.declared.names.VfName.{VfName}
-use Rattle.inspection.specs.declared.names.EeName.{EeName}
-use Rattle.inspection.specs.States.{Core, core_of}
+use Rattle.inspection.specs.States.{Core, Entries, core_of}
 use Rattle.inspection.specs.Tallies.{tally_in}
 use Rattle.inspection.specs.Offers.{lacks_rows}
 use Rattle.motion.specs.declared.shapes.Kind.{Kind}
@@ -39,8 +37,8 @@ view_of struck i ps fs = view_over struck i (sheet_in i.draft ps fs)
 unfoldable pub entry_limit : ℕ
 entry_limit = 4294967296
 
-abbrev pub numbered : {E : Type 0} → List E → List E
-numbered es = take entry_limit es
+abbrev pub numbered_entries : {E : Type 0} → List E → List E
+numbered_entries es = take entry_limit es
 
 -- ---- of a list
 -- an entry, with its window at the depth now set
@@ -57,30 +55,30 @@ module _ {E : Type 0} (n : Naming E) (l : Kind) where
       check (not (n.inside s e)) 19 Report i (place_of l) ∷ checks_from s (i + 1) es
 
   abbrev pub entry_checks : Sheet → List E → List Check
-  entry_checks s es = checks_from s 0 (numbered es)
+  entry_checks s es = checks_from s 0 (numbered_entries es)
 
   -- its entries, and its counts
   abbrev pub section : View → (E → Option (ℕ × ℕ) → List ℕ) → List E → Tally → List ℕ
   section v line es t =
-      flat_map (entry_line n v line) (numbered es) ++ (count_line l t ++ codes "\n")
+      flat_map (entry_line n v line) (numbered_entries es) ++ (count_line l t ++ codes "\n")
 
 -- ---- of the entries of both lists
-unfoldable pub report_text : View → List VfName → List EeName → List ℕ
-report_text v vf ee =
-    section vf_naming Vf v vf_line vf (tally_in Vf v.core.tallies)
-    ++ section ee_naming Ee v ee_line ee (tally_in Ee v.core.tallies)
+unfoldable pub report_text : View → Entries → List ℕ
+report_text v es =
+    section vf_naming Vf v vf_line es.vf (tally_in Vf v.core.tallies)
+    ++ section ee_naming Ee v ee_line es.ee (tally_in Ee v.core.tallies)
 
-abbrev pub list_checks : Sheet → List VfName → List EeName → List Check
-list_checks s vf ee = entry_checks vf_naming Vf s vf ++ entry_checks ee_naming Ee s ee
+abbrev pub list_checks : Sheet → Entries → List Check
+list_checks s es = entry_checks vf_naming Vf s es.vf ++ entry_checks ee_naming Ee s es.ee
 
 -- of a call over these tables, whatever the output
-abbrev pub len_checks : Draft → List Point → List Face → List VfName → List EeName → List Check
-len_checks d ps fs vf ee =
-    check (lacks_rows d ps fs) 16 Report 0 0 ∷ list_checks (sheet_in d ps fs) vf ee
+abbrev pub len_checks : Draft → List Point → List Face → Entries → List Check
+len_checks d ps fs es =
+    check (lacks_rows d ps fs) 16 Report 0 0 ∷ list_checks (sheet_in d ps fs) es
 
 -- for an output of so many bytes
-abbrev pub room_check : List ℕ → ℕ → Check
-room_check text room = check (nat_lt room (length text)) 23 Report 0 0
+abbrev pub output_check : List ℕ → ℕ → Check
+output_check text room = check (nat_lt room (length text)) 23 Report 0 0
 
 -- what is printed: nothing, where a check fits
 abbrev pub printed_unless : List Check → List ℕ → List ℕ

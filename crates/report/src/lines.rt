@@ -2,7 +2,7 @@
 ghost use Rattle.std.specs.Prelude.{◌≡◌, ◌+◌, ◌≤◌, ◌++◌, ℕ, List, Option, codes, decimal};
 ghost use Rattle.arrayvec.specs.ArrayString.{array_string_len};
 ghost use Rattle.motion.specs.declared.shapes.Kind.{Kind};
-ghost use Rattle.report.specs.Lines.{word_of, spaced, window_parts, vf_line, ee_line, count_line};
+ghost use Rattle.report.specs.Lines.{kind_word, spaced, window_parts, vf_line, ee_line, count_line};
 
 use arrayvec::ArrayString;
 use inspection::{EeName, Tally, TestName, VfName};
@@ -90,7 +90,7 @@ pub(crate) fn count_line(list: Kind, tally: Tally) -> ReportLine
 
 /// The word that the lines of a list begin with.
 fn start(list: Kind) -> ReportLine
-    ensures text { result.bytes ≡ word_of list }
+    ensures text { result.bytes ≡ kind_word list }
     ensures len { array_string_len result ≡ 2 }
 {
     let mut line = ArrayString::new();

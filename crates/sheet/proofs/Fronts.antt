@@ -3,7 +3,7 @@ use Rattle.std.proofs.Common.{◌≡◌, ℕ, ◌+◌, ◌<◌, ltb, List, lengt
 use Rattle.std.proofs.lemmas.List.{take_all, length-take-le}
 use Rattle.std.proofs.lemmas.Bool.{cases_lt, cond-true, lt-ltb, ltb-false}
 use Rattle.sheet.specs.Checks.{first_fit, check, notice}
-use Rattle.sheet.specs.Lines.{numbered}
+use Rattle.sheet.specs.Lines.{numbered_lines}
 use Rattle.sheet.specs.Sheet.{text_limit, no_rows, lines_checks, room_in, sheet_checks}
 use Rattle.sheet.specs.declared.notices.Layer.TheVariants.{Sheet}
 use Rattle.sheet.proofs.FirstFit.{no_fit}
@@ -21,5 +21,5 @@ front_decides text p f =
 pub front_is_whole : (text : List ℕ) (p f : ℕ) → first_fit (sheet_checks text p f) ≡ None → take (text_limit + 1) text ≡ text
 front_is_whole text p f h =
     let long = check (ltb text_limit (length text)) 6 Sheet 0 0 in
-    let short = no_fit long (lines_checks (room_in p f) no_rows (numbered text)) h in
+    let short = no_fit long (lines_checks (room_in p f) no_rows (numbered_lines text)) h in
     take_all (text_limit + 1) text (omega (arith, ltb-false text_limit (length text) short.0))

@@ -3,7 +3,7 @@ use Rattle.std.proofs.Common.{◌≡◌, ℕ, ◌+◌, ◌<◌, ◌≤◌, true,
 use Rattle.std.proofs.lemmas.List.{take_more_set, drop-set-lt, append_assoc}
 use Rattle.std.proofs.lemmas.Bool.{ltb-true}
 use Rattle.sheet.specs.Checks.{first_fit}
-use Rattle.sheet.specs.Passes.{total, with_point, with_face}
+use Rattle.sheet.specs.inner.Passes.{counts_after, with_point, with_face}
 use Rattle.sheet.specs.Sheet.{element_of, counting, has_room, point_row, face_row, points_below, faces_below, line_checks, lines_checks}
 use Rattle.sheet.specs.declared.counts.RowCounts.{RowCounts}
 use Rattle.sheet.specs.declared.lines.Element.{Element}
@@ -19,7 +19,7 @@ checks_more room above next s l ls ms p q r e = rw (q, r, p) (past (line_checks 
 pub checks_stop : (room above : RowCounts) (l : ℕ × List ℕ) (ls ms : List (ℕ × List ℕ)) (d : Notice) → ms ≡ l ∷ ls → Some d ≡ first_fit (line_checks room above l) → Some d ≡ first_fit (lines_checks room above ms)
 checks_stop room above l ls ms d p e = rw p (stop (line_checks room above l) _ d e)
 
-pub total_more : (above next : RowCounts) (s : Element) (l : ℕ × List ℕ) (ls ms : List (ℕ × List ℕ)) → ms ≡ l ∷ ls → next ≡ counting above s → s ≡ element_of above.points l.1 → total next ls ≡ total above ms
+pub total_more : (above next : RowCounts) (s : Element) (l : ℕ × List ℕ) (ls ms : List (ℕ × List ℕ)) → ms ≡ l ∷ ls → next ≡ counting above s → s ≡ element_of above.points l.1 → counts_after next ls ≡ counts_after above ms
 total_more above next s l ls ms p q r = rw (q, r, p)
 
 -- rows over those of a table from i on
@@ -55,7 +55,7 @@ by_kind above element.Nothing ps fs = (refl, refl)
 by_kind above (element.Point p) ps fs = (omega arith, refl)
 by_kind above (element.Face f) ps fs = (refl, omega arith)
 
-pub counts_are : (above : RowCounts) (ls : List (ℕ × List ℕ)) → ((total above ls).points ≡ above.points + length (points_below above ls)) × ((total above ls).faces ≡ above.faces + length (faces_below above ls))
+pub counts_are : (above : RowCounts) (ls : List (ℕ × List ℕ)) → ((counts_after above ls).points ≡ above.points + length (points_below above ls)) × ((counts_after above ls).faces ≡ above.faces + length (faces_below above ls))
 counts_are above [] = (omega arith, omega arith)
 counts_are above (l ∷ ls) =
     let e = element_of above.points l.1 in

@@ -9,5 +9,5 @@ pub mod Lines
 pub mod Notices
 pub mod Numbered
 pub mod Numerals
-pub mod Passes
 pub mod Sheet
+pub mod inner

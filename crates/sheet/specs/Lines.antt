@@ -9,8 +9,8 @@ lines_of [] = []
 lines_of (x ∷ xs) = if x == line_feed then [] ∷ lines_of xs else onto_first x (lines_of xs)
 
 -- the lines, each with its number, counted from 1
-abbrev pub numbered : List ℕ → List (ℕ × List ℕ)
-numbered text = enumerate_from 1 (lines_of text)
+abbrev pub numbered_lines : List ℕ → List (ℕ × List ℕ)
+numbered_lines text = enumerate_from 1 (lines_of text)
 
 pub record Fields : Type 0 where
   pub first : List ℕ

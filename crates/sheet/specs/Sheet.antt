@@ -4,7 +4,7 @@ use Rattle.std.specs.Prelude.{ℕ, ◌+◌, ◌-◌, ◌+ℤ◌, min, Bool, true
 use Rattle.std.specs.List.{list_any, flat_map}
 use Rattle.sheet.specs.Checks.{Check, check}
 use Rattle.sheet.specs.Counted.{in_range}
-use Rattle.sheet.specs.Lines.{numbered, Fields, Content, skipped, point, face, no_start, content_of}
+use Rattle.sheet.specs.Lines.{numbered_lines, Fields, Content, skipped, point, face, no_start, content_of}
 use Rattle.sheet.specs.Numerals.{is_magnitude, digits_of, value_of}
 use Rattle.sheet.specs.declared.counts.RowCounts.{RowCounts}
 use Rattle.sheet.specs.declared.drafts.Draft.{Draft}
@@ -182,12 +182,12 @@ room_in points faces = record { points = min points point_limit; faces = min fac
 abbrev pub sheet_checks : List ℕ → ℕ → ℕ → List Check
 sheet_checks text points faces =
     check (nat_lt text_limit (length text)) 6 Sheet 0 0
-    ∷ lines_checks (room_in points faces) no_rows (numbered text)
+    ∷ lines_checks (room_in points faces) no_rows (numbered_lines text)
 
 -- the draft of a text that passes them
 abbrev pub draft_of : List ℕ → Draft
 draft_of text =
-    let ls = numbered text in
+    let ls = numbered_lines text in
     record { points = length (points_in ls); faces = length (faces_in ls) }
 
 -- rows in place of the first of a table, and the rest of it

@@ -1,6 +1,6 @@
 // How many points and faces: those above a line, or those that there is room for.
 ghost use Rattle.std.specs.Prelude.{◌≡◌, IsTrue};
-ghost use Rattle.sheet.specs.Passes.{widest};
+ghost use Rattle.sheet.specs.inner.Passes.{widest};
 ghost use Rattle.sheet.specs.Sheet.{counting, has_room};
 
 use crate::lines::Element;

@@ -5,9 +5,9 @@ ghost use Rattle.sheet.specs.Checks.{first_fit, fault_notice};
 ghost use Rattle.sheet.specs.CountingBack.{CountsBack};
 ghost use Rattle.sheet.specs.Faults.{notice_of_sheet};
 ghost use Rattle.sheet.specs.IsSheet.{IsSheet};
-ghost use Rattle.sheet.specs.Lines.{numbered};
+ghost use Rattle.sheet.specs.Lines.{numbered_lines};
 ghost use Rattle.sheet.specs.Numbered.{line_read};
-ghost use Rattle.sheet.specs.Passes.{total, with_point, with_face};
+ghost use Rattle.sheet.specs.inner.Passes.{counts_after, with_point, with_face};
 ghost use Rattle.sheet.specs.Sheet.{text_limit, no_rows, line_checks, lines_checks, sheet_checks, has_room, element_of, points_in, faces_in, draft_of, onto_front};
 
 use crate::counts::RowCounts;
@@ -37,9 +37,9 @@ pub fn read_sheet(
     ensures meaning { IfOk result
         (λ d. IsSheet (take d.points points.new) (take d.faces faces.new)) }
     ensures counting_back { CountsBack }
-    ensures points { let rows = points_in (numbered text.now) in
+    ensures points { let rows = points_in (numbered_lines text.now) in
         points.new ≡ (if is_ok result then onto_front rows points.old else points.old) }
-    ensures faces { let rows = faces_in (numbered text.now) in
+    ensures faces { let rows = faces_in (numbered_lines text.now) in
         faces.new ≡ (if is_ok result then onto_front rows faces.old else faces.old) }
 {
     if text.len() > TEXT_LIMIT {
@@ -60,8 +60,8 @@ pub fn read_sheet(
 fn survey(text: &[u8], room: RowCounts) -> Result<RowCounts, SheetFault>
     requires { length text.now ≤ text_limit }
     ensures fault { fault_notice notice_of_sheet result
-        ≡ first_fit (lines_checks room no_rows (numbered text.now)) }
-    ensures counts { IfOk result (λ c. c ≡ total no_rows (numbered text.now)) }
+        ≡ first_fit (lines_checks room no_rows (numbered_lines text.now)) }
+    ensures counts { IfOk result (λ c. c ≡ counts_after no_rows (numbered_lines text.now)) }
 {
     let mut above = RowCounts::NONE;
     for line in lines_in(text) {
@@ -76,9 +76,9 @@ fn fill(text: &[u8], room: RowCounts, points: &mut [Point], faces: &mut [Face])
     requires short { length text.now ≤ text_limit }
     requires point_room { room.points ≤ length points.old }
     requires face_room { room.faces ≤ length faces.old }
-    requires good { first_fit (lines_checks room no_rows (numbered text.now)) ≡ None }
-    ensures points { points.new ≡ onto_front (points_in (numbered text.now)) points.old }
-    ensures faces { faces.new ≡ onto_front (faces_in (numbered text.now)) faces.old }
+    requires good { first_fit (lines_checks room no_rows (numbered_lines text.now)) ≡ None }
+    ensures points { points.new ≡ onto_front (points_in (numbered_lines text.now)) points.old }
+    ensures faces { faces.new ≡ onto_front (faces_in (numbered_lines text.now)) faces.old }
 {
     let mut above = RowCounts::NONE;
     for line in lines_in(text) {

@@ -9,7 +9,7 @@ use Rattle.sheet.specs.Checks.{first_fit, check}
 use Rattle.sheet.specs.Counted.{counted, in_range}
 use Rattle.sheet.specs.declared.rows.Point.{Point}
 use Rattle.sheet.proofs.FirstFit.{first_fit_append, no_fit, none_parts}
-use Rattle.step.specs.Laying.{move_in, field_checks, after_field, bit_stands, after_x, after_y, after_fields, fields_checks, map_in, row_checks, after_row, rows_checks, lay_checks, spot}
+use Rattle.step.specs.Laying.{move_in, field_checks, after_field, bit_stands, after_x, after_y, after_fields, fields_checks, map_in, row_checks, after_row, rows_checks, lay_checks, row_spot}
 use Rattle.step.specs.Record.{is_zero}
 use Rattle.step.specs.declared.faults.Spot.{Spot}
 
@@ -62,9 +62,9 @@ module _ (n : ℕ) {ys bs : List ℕ} (f : Front (n + 8) ys bs) where
   row_front : (i : ℕ) (p : Point) → row_checks i p ys ≡ row_checks i p bs
   row_front i p =
       let s = counted p.start in
-      let fx = field_front (n + 1 + 2 + 2) fields (spot i 1) (bit_stands (map_in bs) 1) s.x in
-      let fy = field_front (n + 1 + 2) behind_x (spot i 2) (bit_stands (map_in bs) 2) s.y in
-      let fz = field_front (n + 1) behind_y (spot i 3) (bit_stands (map_in bs) 4) s.z in
+      let fx = field_front (n + 1 + 2 + 2) fields (row_spot i 1) (bit_stands (map_in bs) 1) s.x in
+      let fy = field_front (n + 1 + 2) behind_x (row_spot i 2) (bit_stands (map_in bs) 2) s.y in
+      let fz = field_front (n + 1) behind_y (row_spot i 3) (bit_stands (map_in bs) 4) s.z in
       (λ j. check (empty j) 8 Step i 0 ∷ (check (nat_lt 7 (map j)) 9 Step i 0 ∷ fields_checks (map j) i s (drop 1 ys)))
       ∙ (λ j. check (length bs == 0) 8 Step i 0 ∷ (check (nat_lt 7 (map_in bs)) 9 Step i 0 ∷ (fx j ++ (fy j ++ fz j))))
     where

@@ -9,7 +9,7 @@ use Rattle.sheet.specs.Counted.{in_range, counted, within}
 use Rattle.sheet.specs.declared.rows.Coords.{Coords}
 use Rattle.sheet.specs.declared.rows.Point.{Point}
 use Rattle.sheet.proofs.FirstFit.{first_fit_append, no_fit, none_parts}
-use Rattle.step.specs.Laying.{field_checks, after_field, bit_stands, after_x, after_y, after_fields, fields_checks, ends_of, row_checks, end_of, after_row, spot}
+use Rattle.step.specs.Laying.{field_checks, after_field, bit_stands, after_x, after_y, after_fields, fields_checks, ends_of, row_checks, end_of, after_row, row_spot}
 use Rattle.step.specs.Record.{is_zero, field_of, map_byte, moves_record}
 use Rattle.step.proofs.CountedLaws.{counted_within}
 use Rattle.step.proofs.FieldLaws.{Bytes, field_back, field_only}
@@ -54,9 +54,9 @@ row_back i p e r q =
     let fy = field_of m.y in
     let fz = field_of m.z in
     let xs = (fx ++ (fy ++ fz)) ++ r in
-    let hx = field_back (spot i 1) (bit_stands n 1) s.x e.x xs (fy ++ (fz ++ r)) sx.0 ex.0 bits.0 (append_assoc fx (fy ++ fz) r ∙ ap (λ l. fx ++ l) (append_assoc fy fz r)) in
-    let hy = field_back (spot i 2) (bit_stands n 2) s.y e.y (after_x n xs) (fz ++ r) sy.0 ey.0 bits.1 hx.rest in
-    let hz = field_back (spot i 3) (bit_stands n 4) s.z e.z (after_y n xs) r sy.1 ey.1 bits.2 hy.rest in
+    let hx = field_back (row_spot i 1) (bit_stands n 1) s.x e.x xs (fy ++ (fz ++ r)) sx.0 ex.0 bits.0 (append_assoc fx (fy ++ fz) r ∙ ap (λ l. fx ++ l) (append_assoc fy fz r)) in
+    let hy = field_back (row_spot i 2) (bit_stands n 2) s.y e.y (after_x n xs) (fz ++ r) sy.0 ey.0 bits.1 hx.rest in
+    let hz = field_back (row_spot i 3) (bit_stands n 4) s.z e.z (after_y n xs) r sy.1 ey.1 bits.2 hy.rest in
     record {
       good = rw (ne_eqb (length (n ∷ xs)) 0 (λ h. omega arith), bits.3, first_fit_append, hx.good, first_fit_append, hy.good) hz.good;
       end = λ j. record { x = hx.end j; y = hy.end j; z = hz.end j };
@@ -86,14 +86,14 @@ row_only i p (m ∷ xs) B g =
     let small = check (ltb 7 m) 9 Step i 0 in
     let c8 = no_fit (check (eqb (length (m ∷ xs)) 0) 8 Step i 0) (small ∷ fields_checks m i s xs) g in
     let c9 = no_fit small (fields_checks m i s xs) c8.1 in
-    let x = none_parts (field_checks (spot i 1) (bit_stands m 1) s.x xs) _ c9.1 in
-    let y = none_parts (field_checks (spot i 2) (bit_stands m 2) s.y (after_x m xs)) _ x.1 in
+    let x = none_parts (field_checks (row_spot i 1) (bit_stands m 1) s.x xs) _ c9.1 in
+    let y = none_parts (field_checks (row_spot i 2) (bit_stands m 2) s.y (after_x m xs)) _ x.1 in
     let Bx = bytes_drop 1 (m ∷ xs) B in
     let By = bytes_after (bit_stands m 1) xs Bx in
     let Bz = bytes_after (bit_stands m 2) (after_x m xs) By in
-    let wx = field_only (spot i 1) (bit_stands m 1) s.x xs Bx sx.0 x.0 in
-    let wy = field_only (spot i 2) (bit_stands m 2) s.y (after_x m xs) By sy.0 y.0 in
-    let wz = field_only (spot i 3) (bit_stands m 4) s.z (after_y m xs) Bz sy.1 y.1 in
+    let wx = field_only (row_spot i 1) (bit_stands m 1) s.x xs Bx sx.0 x.0 in
+    let wy = field_only (row_spot i 2) (bit_stands m 2) s.y (after_x m xs) By sy.0 y.0 in
+    let wz = field_only (row_spot i 3) (bit_stands m 4) s.z (after_y m xs) Bz sy.1 y.1 in
     let e = ends_of m s xs in
     let d = distance s e in
     let fx = field_of d.x in

@@ -9,7 +9,7 @@ use Rattle.sheet.specs.declared.rows.Point.{Point}
 use Rattle.sheet.proofs.FirstFit.{no_fit, none_parts}
 use Rattle.step.specs.Laying.{row_checks, end_of, after_row, with_end, rows_checks, with_ends}
 use Rattle.step.specs.Record.{moves_of, moves_record, point_record, record_of}
-use Rattle.step.specs.Steps.{Ends, Step, as_counted}
+use Rattle.step.specs.Steps.{OtherEnds, Step, as_counted}
 use Rattle.step.proofs.FieldLaws.{Bytes}
 use Rattle.step.proofs.CountedLaws.{coordinate_of_same, coordinate_of_within, counted_within}
 use Rattle.step.proofs.RowLaws.{distance, none_append, RowBack, row_back, row_only}
@@ -30,7 +30,7 @@ moves_are p q e w =
 
 -- WHAT IS WRITTEN READS BACK
 
-pub rows_back : (i : ℕ) (ps qs : List Point) → Ends ps qs → (first_fit (rows_checks i ps (record_of qs)) ≡ None) × (with_ends ps (record_of qs) ≡ qs)
+pub rows_back : (i : ℕ) (ps qs : List Point) → OtherEnds ps qs → (first_fit (rows_checks i ps (record_of qs)) ≡ None) × (with_ends ps (record_of qs) ≡ qs)
 rows_back i [] [] e = (refl, refl)
 rows_back i [] (q ∷ qs) e = absurd e
 rows_back i (p ∷ ps) [] e = absurd e

@@ -11,8 +11,8 @@ use Rattle.step.specs.Record.{is_zero}
 use Rattle.step.specs.declared.faults.Spot.{Spot}
 
 -- field k of point i; field 0 is the map
-abbrev pub spot : ℕ → ℕ → Spot
-spot i k = record { point = i; field = k }
+abbrev pub row_spot : ℕ → ℕ → Spot
+row_spot i k = record { point = i; field = k }
 
 -- A FIELD
 
@@ -58,9 +58,9 @@ module _ (m : ℕ) where
   -- the checks of the fields of point i, which counts to start at s
   abbrev pub fields_checks : ℕ → Coords → List ℕ → List Check
   fields_checks i s xs =
-      field_checks (spot i 1) (bit_stands m 1) s.x xs
-      ++ (field_checks (spot i 2) (bit_stands m 2) s.y (after_x xs)
-      ++ field_checks (spot i 3) (bit_stands m 4) s.z (after_y xs))
+      field_checks (row_spot i 1) (bit_stands m 1) s.x xs
+      ++ (field_checks (row_spot i 2) (bit_stands m 2) s.y (after_x xs)
+      ++ field_checks (row_spot i 3) (bit_stands m 4) s.z (after_y xs))
 
   -- the end that they give
   abbrev pub ends_of : Coords → List ℕ → Coords

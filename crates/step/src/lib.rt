@@ -9,4 +9,4 @@ mod writing;
 
 pub use faults::{Spot, StepFault, WriterFault};
 pub use laying::lay;
-pub use writing::{is_moving, record_limit, write};
+pub use writing::{is_moving, record_len, record_limit, write};

@@ -42,14 +42,22 @@ pub fn write(draft: &Draft, points: &[Point], out: &mut [u8]) -> Result<usize, W
         return Err(WriterFault::TableTooShort);
     }
     let rows = &points[0..count];
-    if out.len() < record_len(rows) {
+    if out.len() < rows_len(rows) {
         return Err(WriterFault::OutputTooShort);
     }
     Ok(put_rows(rows, out))
 }
 
+/// How many bytes the record of the draft's points has, or of as many as there are.
+pub fn record_len(draft: &Draft, points: &[Point]) -> usize
+    ensures { result ≡ length (record_of (take draft.now.points points.now)) }
+{
+    let count = points.len().min(draft.points() as usize);
+    rows_len(&points[..count])
+}
+
 /// How many bytes the record of these rows has.
-fn record_len(rows: &[Point]) -> usize
+fn rows_len(rows: &[Point]) -> usize
     requires { length rows.now ≤ 65535 }
     ensures { result ≡ length (record_of rows.now) }
 {

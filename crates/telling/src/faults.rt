@@ -1,9 +1,9 @@
 // The fault that ended a run.
 
 use crate::lines::line_of;
-use files::tell;
 use sheet::{Layer, Notice};
 use std::{fs, str};
+use system::tell;
 use wording::{WORDS_ROOM, fault_words};
 
 /// Tells the fault of a file in words, with the line that it is in. The line is read again, so that

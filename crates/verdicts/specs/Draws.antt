@@ -10,12 +10,12 @@ abbrev pub draw_of : ℕ → ℕ
 draw_of s = s / 2 ^ 33
 
 -- from −half to half
-abbrev pub around : ℕ → ℕ → ℤ
-around half n = pos (n % (2 * half + 1)) -ℤ pos half
+abbrev pub drawn_around : ℕ → ℕ → ℤ
+drawn_around half n = pos (n % (2 * half + 1)) -ℤ pos half
 
 -- right of zero for a point of the first feature, else not
-abbrev pub beside : Bool → ℕ → ℤ
-beside first n = if first then pos (n % 4096) +ℤ pos 1 else neg_ℤ (pos (n % 4097))
+abbrev pub drawn_beside : Bool → ℕ → ℤ
+drawn_beside first n = if first then pos (n % 4096) +ℤ pos 1 else neg_ℤ (pos (n % 4097))
 
 -- far out, on the one side or the other
 abbrev pub side : ℕ → ℕ → ℤ

@@ -1,6 +1,6 @@
 // Pseudo-random numbers, and a checksum.
 ghost use Rattle.std.specs.Prelude.{◌≡◌};
-ghost use Rattle.verdicts.specs.Draws.{next_state, draw_of, around, sum_with};
+ghost use Rattle.verdicts.specs.Draws.{next_state, draw_of, drawn_around, sum_with};
 
 /// A sequence of numbers that is the same in every run.
 #[derive(Drop)]
@@ -29,7 +29,7 @@ impl Draws {
 
     /// The next number from −half to half.
     pub(crate) fn around(&mut self, half: u16) -> i64
-        ensures value { result ≡ around half (draw_of (next_state self.old.state)) }
+        ensures value { result ≡ drawn_around half (draw_of (next_state self.old.state)) }
         ensures state { self.new.state ≡ next_state self.old.state }
     {
         centred(self.next(), half)
@@ -37,7 +37,7 @@ impl Draws {
 }
 
 fn centred(n: u64, half: u16) -> i64
-    ensures { result ≡ around half n }
+    ensures { result ≡ drawn_around half n }
 {
     let half = half as u64;
     (n % (2 * half + 1)) as i64 - half as i64

@@ -4,13 +4,12 @@
 mod draws;
 mod samples;
 
-use commands::{About, given};
 use draws::{Draws, Sum};
-use files::tell;
 use filters::{BoxFilter, DELIVERED, Filter, PlaneFilter, SlabFilter, Test, controls, struck_at};
 use samples::{Family, sample};
 use std::io;
 use std::process::ExitCode;
+use system::{About, given, tell};
 
 const TESTS: u32 = 1000;
 

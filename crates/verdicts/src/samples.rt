@@ -1,6 +1,6 @@
 // The tests that are made, by class.
 ghost use Rattle.std.specs.Prelude.{◌≡◌};
-ghost use Rattle.verdicts.specs.Draws.{beside, side};
+ghost use Rattle.verdicts.specs.Draws.{drawn_beside, side};
 
 use crate::draws::Draws;
 use motion::{Moving, Shape, V3};
@@ -73,7 +73,7 @@ impl Family {
 
 /// To the right of zero for a point of the first feature, else not.
 fn beside(first: bool, n: u64) -> i64
-    ensures { result ≡ beside first n }
+    ensures { result ≡ drawn_beside first n }
 {
     if first {
         (n % 4096) as i64 + 1

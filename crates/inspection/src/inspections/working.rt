@@ -3,16 +3,14 @@ ghost use Rattle.std.specs.Prelude.{◌≡◌, [], min, length, take, drop, IfOk
 ghost use Rattle.sheet.specs.Checks.{first_fit, fault_notice};
 ghost use Rattle.inspection.specs.Faults.{notice_of_opening};
 ghost use Rattle.inspection.specs.Sheets.{sheet_in};
-ghost use Rattle.inspection.specs.Lists.{contents_of, entries};
 ghost use Rattle.inspection.specs.States.{core_of, state_of, state_at_start};
 ghost use Rattle.inspection.specs.Runs.{depth_checks, Run};
 ghost use Rattle.inspection.specs.Alike.{AnswersAlike};
-ghost use Rattle.inspection.specs.Claims.{Claim};
+ghost use Rattle.inspection.specs.Claims.{WholeClaim};
 ghost use Rattle.inspection.specs.Requests.{RequestCall, Calls, history};
 
 use super::{Inspection, Refused};
-use crate::lists::List;
-use crate::names::{EeName, VfName};
+use crate::lists::Lists;
 use crate::requests::{Answer, Request};
 use filters::Filter;
 use motion::Kind;
@@ -24,30 +22,27 @@ impl<F: Filter> Inspection<F> {
         &mut self,
         points: &[Point],
         faces: &[Face],
-        vf: &mut List<'_, VfName>,
-        ee: &mut List<'_, EeName>,
+        lists: &mut Lists<'_>,
         request: Request,
     ) -> Answer
         ensures call { RequestCall (F.Filter.struck self.old.filter) points.now faces.now
-            request result (state_of self.old vf.old ee.old) (state_of self.new vf.new ee.new) }
+            request result (state_of self.old lists.old) (state_of self.new lists.new) }
         ensures filter { self.new.filter ≡ self.old.filter }
-        ensures vf_lender { (contents_of vf.new).lender ≡ (contents_of vf.old).lender }
-        ensures ee_lender { (contents_of ee.new).lender ≡ (contents_of ee.old).lender }
     {
         match request {
             Request::SetDepth(depth) => Answer::DepthSet(self.set_depth(depth)),
-            Request::Offer(what) => Answer::Offered(self.offer(points, faces, vf, ee, what)),
+            Request::Offer(what) => Answer::Offered(self.offer(points, faces, lists, what)),
             Request::Window(Kind::Vf, entry) => {
-                Answer::Window(self.window(points, faces, vf, entry))
+                Answer::Window(self.window(points, faces, &lists.vf, entry))
             }
             Request::Window(Kind::Ee, entry) => {
-                Answer::Window(self.window(points, faces, ee, entry))
+                Answer::Window(self.window(points, faces, &lists.ee, entry))
             }
             Request::Earliest(Kind::Vf, entry) => {
-                Answer::Earliest(self.earliest(points, faces, vf, entry))
+                Answer::Earliest(self.earliest(points, faces, &lists.vf, entry))
             }
             Request::Earliest(Kind::Ee, entry) => {
-                Answer::Earliest(self.earliest(points, faces, ee, entry))
+                Answer::Earliest(self.earliest(points, faces, &lists.ee, entry))
             }
         }
     }
@@ -72,8 +67,7 @@ pub fn inspect<F: Filter>(
     depth: u8,
     points: &[Point],
     faces: &[Face],
-    vf: &mut List<'_, VfName>,
-    ee: &mut List<'_, EeName>,
+    lists: &mut Lists<'_>,
     requests: &[Request],
     answers: &mut [Answer],
 ) -> Result<Worked<F>, Refused<F>>
@@ -84,34 +78,31 @@ pub fn inspect<F: Filter>(
     ensures calls { IfOk result (λ w.
         Calls (F.Filter.struck filter) points.now faces.now
         (take w.answered requests.now) (take w.answered answers.new)
-        (state_at_start draft depth (contents_of vf.old) (contents_of ee.old))
-        (state_of w.inspection vf.new ee.new)) }
+        (state_at_start draft depth lists.old)
+        (state_of w.inspection lists.new)) }
     ensures rest { IfOk result (λ w. drop w.answered answers.new ≡ drop w.answered answers.old) }
     ensures filter { IfOk result (λ w. w.inspection.filter ≡ filter) }
     ensures run { IfOk result (λ w.
         Run (F.Filter.struck filter) draft (sheet_in draft points.now faces.now)
         (history depth (take w.answered requests.now) (take w.answered answers.new)) []
-        (state_of w.inspection vf.new ee.new)) }
+        (state_of w.inspection lists.new)) }
     ensures claim { IfOk result (λ w.
-        Claim (F.Filter.struck filter) draft (sheet_in draft points.now faces.now)
+        WholeClaim (F.Filter.struck filter) draft (sheet_in draft points.now faces.now)
         (history depth (take w.answered requests.now) (take w.answered answers.new))
-        (core_of w.inspection) (entries vf.new) (entries ee.new)) }
+        (core_of w.inspection) lists.new.vf.entries lists.new.ee.entries) }
     ensures alike { IfOk result (λ w.
         AnswersAlike (F.Filter.struck filter) points.now faces.now (take w.answered requests.now)
-        (state_at_start draft depth (contents_of vf.old) (contents_of ee.old))
-        (take w.answered answers.new) (state_of w.inspection vf.new ee.new)) }
-    ensures vf_lender { (contents_of vf.new).lender ≡ (contents_of vf.old).lender }
-    ensures ee_lender { (contents_of ee.new).lender ≡ (contents_of ee.old).lender }
+        (state_at_start draft depth lists.old)
+        (take w.answered answers.new) (state_of w.inspection lists.new)) }
     ensures draft_back { IfErr result (λ x. x.draft ≡ draft) }
     ensures filter_back { IfErr result (λ x. x.filter ≡ filter) }
     ensures answers_back { OnErr result (answers.new ≡ answers.old) }
-    ensures vf_back { OnErr result (contents_of vf.new ≡ contents_of vf.old) }
-    ensures ee_back { OnErr result (contents_of ee.new ≡ contents_of ee.old) }
+    ensures lists_back { OnErr result (lists.new ≡ lists.old) }
 {
-    let mut inspection = Inspection::open(draft, filter, depth, vf, ee)?;
+    let mut inspection = Inspection::open(draft, filter, depth, lists)?;
     let n = requests.len().min(answers.len());
     for i in 0..n {
-        answers[i] = inspection.answer(points, faces, vf, ee, requests[i]);
+        answers[i] = inspection.answer(points, faces, lists, requests[i]);
     }
     Ok(Worked {
         inspection,

@@ -5,8 +5,8 @@ use Rattle.near_faces.specs.declared.pairs.Pair.{Pair}
 use Rattle.near_faces.specs.declared.nodes.Node.{Node}
 use Rattle.near_faces.specs.Boxes.{meets}
 use Rattle.near_faces.specs.Near.{near_to}
-use Rattle.near_faces.specs.Listing.{put}
-use Rattle.near_faces.specs.Sides.{boxes_in}
+use Rattle.near_faces.specs.inner.Listing.{put}
+use Rattle.near_faces.specs.inner.Sides.{boxes_in}
 use Rattle.near_faces.proofs.Halving.{places, some_boxes, root}
 use Rattle.near_faces.proofs.Listing.{none_later, none_met, length-put, put_halves, nothing_after}
 use Rattle.near_faces.proofs.Rows.{length-boxes_in, later_rows, near_halves, few_near, two_trees}

@@ -3,8 +3,8 @@ use Rattle.std.proofs.lemmas.List.{take_rest}
 use Rattle.near_faces.specs.declared.pairs.Pair.{Pair}
 use Rattle.near_faces.specs.declared.boxes.SweptBox.{SweptBox}
 use Rattle.near_faces.specs.Near.{near_to, near_from}
-use Rattle.near_faces.specs.Listing.{put}
-use Rattle.near_faces.specs.Sides.{boxes_in}
+use Rattle.near_faces.specs.inner.Listing.{put}
+use Rattle.near_faces.specs.inner.Sides.{boxes_in}
 use Rattle.near_faces.proofs.Listing.{length-put, put_halves, nothing_after}
 use Rattle.near_faces.proofs.Rows.{next_near, few_near}
 use Rattle.near_faces.proofs.pairs.list_all.Goals as goal

@@ -1,7 +1,7 @@
 use Rattle.std.proofs.Common.{◌≡◌, ◌*◌, ◌≤◌, length, take}
 use Rattle.near_faces.specs.Near.{near_from}
-use Rattle.near_faces.specs.Listing.{put}
-use Rattle.near_faces.specs.Sides.{boxes_in}
+use Rattle.near_faces.specs.inner.Listing.{put}
+use Rattle.near_faces.specs.inner.Sides.{boxes_in}
 use Rattle.near_faces.proofs.pairs.list_all.Given as goal
 
 -- the pairs of the faces below i are counted and written

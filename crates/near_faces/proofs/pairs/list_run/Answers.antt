@@ -2,9 +2,9 @@ use Rattle.std.proofs.Common.{arith, ◌≡◌, List, Bool, map, sym, ap, ◌∙
 use Rattle.std.specs.List.{count_by}
 use Rattle.near_faces.specs.Boxes.{meets}
 use Rattle.near_faces.specs.declared.pairs.Pair.{Pair}
-use Rattle.near_faces.specs.Listing.{marked, put}
+use Rattle.near_faces.specs.inner.Listing.{marked, put}
 use Rattle.near_faces.specs.Near.{near_to}
-use Rattle.near_faces.specs.Sides.{boxes_in}
+use Rattle.near_faces.specs.inner.Sides.{boxes_in}
 use Rattle.near_faces.proofs.Marking.{marked_near, count_near, put_none}
 use Rattle.near_faces.proofs.pairs.list_run.Goals as goal
 

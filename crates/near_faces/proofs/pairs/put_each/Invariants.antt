@@ -1,5 +1,5 @@
 use Rattle.std.proofs.Common.{◌≡◌, min, length, take}
-use Rattle.near_faces.specs.Listing.{marked, put}
+use Rattle.near_faces.specs.inner.Listing.{marked, put}
 use Rattle.near_faces.proofs.pairs.put_each.Given as goal
 
 -- the pairs of the first k faces are written, as far as there is room

@@ -1,6 +1,7 @@
 use Rattle.std.proofs.Common.{[], sym, ◌∙◌, subst}
-use Rattle.printout.specs.Memory.{plan}
-use Rattle.page.specs.Shown.{shown, TellsRows}
+use Rattle.plan.specs.Plans.{plan}
+use Rattle.page.specs.Shown.{shown}
+use Rattle.page.specs.inner.Told.{TellsRows}
 use Rattle.page.proofs.Shown.{tells_none, tells_none_laid, tells_step}
 use Rattle.page.proofs.rows.read_rows.Goals as goal
 

@@ -3,7 +3,7 @@ use Rattle.std.proofs.lemmas.List.{at_drop_all}
 use Rattle.std.proofs.lemmas.Result.{err_from_is_err_and}
 use Rattle.inspection.specs.Lists.{names}
 use Rattle.inspection.specs.Sheets.{sheet_of_rows}
-use Rattle.hosts.specs.Works.{Prints}
+use Rattle.hosts.specs.Writing.{Prints}
 use Rattle.hosts.proofs.Printing.{nothing_printed, printed_then, printed_short}
 use Rattle.report.specs.Reports.{view_over, entry_line}
 use Rattle.report.proofs.Entries.{left}

@@ -1,6 +1,6 @@
 use Rattle.std.proofs.Common.{ap, ◌∙◌}
-use Rattle.filters.specs.Boxes.{coordinate}
-use Rattle.filters.specs.Spans.{sides, parted}
+use Rattle.filters.specs.inner.Boxes.{coordinate}
+use Rattle.filters.specs.inner.Spans.{sides, parted}
 use Rattle.filters.proofs.Extents.{parted-is}
 use Rattle.filters.proofs.boxes.Axis.separates.Goals as goal
 

@@ -1,5 +1,4 @@
 use Rattle.std.proofs.Common.{◌≡◌, take, drop}
-use Rattle.inspection.specs.Lists.{contents_of}
 use Rattle.inspection.specs.States.{state_of, state_at_start}
 use Rattle.inspection.specs.Requests.{Calls}
 use Rattle.inspection.proofs.inspections.working.inspect.Given as goal
@@ -7,9 +6,7 @@ use Rattle.inspection.proofs.inspections.working.inspect.Given as goal
 -- the first i requests are worked
 abbrev pub invariant-loop-i : goal.invariant-loop-i
 invariant-loop-i g l = record {
-  calls : Calls (g.F.Filter.struck l.fn.filter) l.points l.faces (take l.i l.requests) (take l.i l.answers) (state_at_start l.fn.draft l.depth (contents_of l.fn.vf) (contents_of l.fn.ee)) (state_of l.inspection l.vf l.ee);
+  calls : Calls (g.F.Filter.struck l.fn.filter) l.points l.faces (take l.i l.requests) (take l.i l.answers) (state_at_start l.fn.draft l.depth l.fn.lists) (state_of l.inspection l.lists);
   filter : l.inspection.filter ≡ l.fn.filter;
-  vf_lender : (contents_of l.vf).lender ≡ (contents_of l.fn.vf).lender;
-  ee_lender : (contents_of l.ee).lender ≡ (contents_of l.fn.ee).lender;
   rest : drop l.i l.answers ≡ drop l.i l.fn.answers;
 }

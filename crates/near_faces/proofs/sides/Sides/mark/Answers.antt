@@ -3,7 +3,7 @@ use Rattle.std.proofs.lemmas.List.{take_all}
 use Rattle.std.proofs.lemmas.List.Sums.{count_by-le-length}
 use Rattle.std.specs.List.{count_by}
 use Rattle.near_faces.specs.Boxes.{box_around, meets}
-use Rattle.near_faces.specs.Sides.{boxes_in}
+use Rattle.near_faces.specs.inner.Sides.{boxes_in}
 use Rattle.near_faces.proofs.Sweeping.{one_more}
 use Rattle.near_faces.proofs.Rows.{length-boxes_in, get_or-boxes_in}
 use Rattle.near_faces.proofs.Marking.{count_more, whole_table}

@@ -1,7 +1,7 @@
 use Rattle.std.proofs.Common.{◌≡◌, ◌≤◌, ◌++◌, length, map, take, drop}
 use Rattle.std.specs.List.{count_by}
 use Rattle.near_faces.specs.Boxes.{meets}
-use Rattle.near_faces.specs.Sides.{boxes_in}
+use Rattle.near_faces.specs.inner.Sides.{boxes_in}
 use Rattle.near_faces.proofs.sides.Sides.mark.Given as goal
 
 -- the first k boxes are tested

@@ -1,5 +1,5 @@
 use Rattle.std.proofs.Common.{◌≡◌, take}
-use Rattle.near_faces.specs.Sides.{boxes_in}
+use Rattle.near_faces.specs.inner.Sides.{boxes_in}
 use Rattle.near_faces.proofs.sides.Sides.of.Given as goal
 
 -- the boxes below i are written

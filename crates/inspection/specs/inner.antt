@@ -1,0 +1,3 @@
+pub mod Extending
+pub mod Judges
+pub mod Outcomes

@@ -1,8 +1,0 @@
-pub mod Alike
-pub mod FileByFile
-pub mod FileOfPairs
-pub mod InMemory
-pub mod Offers
-pub mod Sorting
-pub mod Settling
-pub mod Telling

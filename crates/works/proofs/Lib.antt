@@ -1,0 +1,2 @@
+pub mod of_a_plan
+pub mod of_frames

@@ -1,0 +1,9 @@
+pub mod Stepped
+pub mod Covered
+pub mod Paired
+pub mod Texts
+pub mod Settling
+pub mod SameAccount
+pub mod Steps
+pub mod BothFrames
+pub mod InMemory

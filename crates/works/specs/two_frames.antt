@@ -1,0 +1,4 @@
+pub mod Lines
+pub mod Accounts
+pub mod Settled
+pub mod Works
